@@ -1,0 +1,17 @@
+pub mod Process
+pub mod Thread
+pub mod Object
+pub mod History
+pub mod Starts
+pub mod LooseRun
+pub mod Simulation
+pub mod Progress
+pub mod Safety
+pub mod Run
+pub mod RunLaws
+pub mod Endings
+pub mod Sound
+pub mod CounterObject
+pub mod CounterProcess
+pub mod CounterThread
+pub mod CounterRun
