@@ -1,0 +1,5 @@
+pub mod TreeLemmas
+pub mod VariablesLemmas
+pub mod PositionsLemmas
+pub mod SubstitutionLemmas
+pub mod PrintedLemmas

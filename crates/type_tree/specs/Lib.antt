@@ -1,0 +1,4 @@
+pub mod Tree
+pub mod Positions
+pub mod Substitution
+pub mod Printed
