@@ -1,0 +1,4 @@
+pub mod Assembly
+pub mod Reading
+pub mod Row
+pub mod Word

@@ -1,0 +1,6 @@
+pub mod Access
+pub mod Arithmetic
+pub mod Effect
+pub mod Kind
+pub mod Registers
+pub mod Steps
