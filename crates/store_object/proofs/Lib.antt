@@ -1,0 +1,3 @@
+pub mod HeldLemmas
+pub mod StoreLaws
+pub mod Histories

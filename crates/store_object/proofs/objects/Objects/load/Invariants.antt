@@ -1,0 +1,4 @@
+use Rattle.store_object.proofs.objects.Objects.load.Given as goal
+
+abbrev pub ghost-at : goal.ghost-at
+ghost-at g a = g.store

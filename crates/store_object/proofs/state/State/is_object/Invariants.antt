@@ -1,0 +1,4 @@
+use Rattle.store_object.proofs.state.State.is_object.Given as goal
+
+abbrev pub ghost-find : goal.ghost-find
+ghost-find g a = g.store
