@@ -1,0 +1,25 @@
+-- The words of the one command. This project's own.
+use Rattle.std.specs.Prelude.{◌≡◌, ◌≢◌, ◌≤◌, ℕ, List, [], ◌∷◌, codes}
+use Rattle.std.specs.Fmt.{decimal}
+
+-- a word that is a file's: it isn't empty and doesn't begin with a minus
+abbrev pub IsPlainWord : List ℕ → Type 0
+IsPlainWord [] = ⊥
+IsPlainWord (b ∷ bs) = b ≢ 45
+
+-- a number of turns in decimal digits, without a leading zero
+pub record SpellsTurns (word : List ℕ) (turns : ℕ) : Type 0 where
+  pub digits : word ≡ decimal turns
+  pub low : 1 ≤ turns
+  pub high : turns ≤ 4000000
+
+-- `exec F @all 0 TURNS`: five words, those of the command, the file, the choice of all bodies, the seed and the turns
+pub record IsCommand (words : List (List ℕ)) (name : List ℕ) (turns : ℕ) : Type 0 where
+  pub words_are : words ≡ codes "exec" ∷ name ∷ codes "@all" ∷ codes "0" ∷ decimal turns ∷ []
+  pub plain : IsPlainWord name
+  pub low : 1 ≤ turns
+  pub high : turns ≤ 4000000
+
+-- the words are no command
+abbrev pub IsUsage : List (List ℕ) → Type 0
+IsUsage words = (name : List ℕ) (turns : ℕ) → ¬ IsCommand words name turns

@@ -1,0 +1,15 @@
+pub mod FirstWords
+pub mod Values
+pub mod Replies
+pub mod Store
+pub mod Process
+pub mod Code
+pub mod Machine
+pub mod Gives
+pub mod Run
+pub mod Executed
+pub mod History
+pub mod Command
+pub mod FirstForm
+pub mod Written
+pub mod Headline

@@ -1,0 +1,47 @@
+-- What is written for each status, and what a call that answers leaves of the sink. This project's own.
+use Rattle.std.specs.Prelude.{◌≡◌, ◌≤◌, ◌⊎◌, ◌++◌, ◌∷◌, [], ℕ, List, Option, codes}
+use Rattle.std.specs.Io.KnownBytes.{Appends}
+use Rattle.mn_outside.specs.Causes.{Rose, AppendsPrefix, AppendsTwo}
+use Rattle.run_top.specs.declared.events.Ending.{Ending}
+use Rattle.run_top.specs.declared.events.Ending.TheVariants.{Done, Turns}
+use Rattle.run_top.specs.declared.record.RunRecord.{RunRecord}
+use Rattle.run_top.specs.History.{output}
+
+-- a line with its end
+abbrev pub line : List ℕ → List ℕ
+line text = text ++ 10 ∷ []
+
+abbrev pub usage_line : List ℕ
+usage_line = line (codes "Usage")
+
+abbrev pub first_form_line : List ℕ
+first_form_line = line (codes "Text 1:1 FirstForm")
+
+abbrev pub file_line : List ℕ → List ℕ
+file_line name = line (codes "File " ++ name)
+
+abbrev pub no_memory_line : List ℕ
+no_memory_line = line (codes "No memory")
+
+-- the status of an ending, and its line
+abbrev pub status_of : Ending → ℕ
+status_of Done = 0
+status_of Turns = 5
+
+abbrev pub ending_line : Ending → List ℕ
+ending_line Done = []
+ending_line Turns = line (codes "Stopped: Turns")
+
+-- what is written for a run: its output, and then the line of its ending
+abbrev pub shown : RunRecord → List ℕ
+shown r = output r.history.items ++ ending_line r.ending
+
+-- an answer that has these bytes and this status: they were all put; or a put failed, after a prefix of them;
+-- or there was no memory, after a prefix of them, and a prefix of the line for that was put
+pub record Answers (before now : Option (List ℕ)) (faults_before faults_now : ℕ) (bytes : List ℕ) (status answered : ℕ) : Type 0 where
+  pub either : (answered ≡ status) ⊎ ((answered ≡ 9) ⊎ (answered ≡ 10))
+  pub all : answered ≡ status → Appends before now bytes
+  pub failed : answered ≡ 9 → Rose faults_before faults_now
+  pub front : answered ≡ 9 → AppendsPrefix before now bytes
+  pub short : answered ≡ 10 → AppendsTwo before now bytes no_memory_line
+  pub later : faults_before ≤ faults_now

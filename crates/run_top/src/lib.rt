@@ -1,0 +1,25 @@
+//! The top call: the command, the first form of a text, its code words, the machine that runs them, and the lines.
+#![tactic(auto)]
+
+mod command;
+mod compile;
+mod events;
+mod first_form;
+mod first_number;
+#[cfg(test)]
+mod first_tests;
+mod first_words;
+mod machine;
+mod record;
+mod run;
+#[cfg(test)]
+mod sum;
+#[cfg(test)]
+mod tests;
+mod top;
+mod turns;
+mod written;
+
+pub use events::{Ending, Event, Form, Reply, Request, Turn, What};
+pub use record::{Outcome, RunRecord};
+pub use top::aot_main;

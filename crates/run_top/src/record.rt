@@ -1,0 +1,23 @@
+// What the top call answers.
+use crate::events::{Ending, Event, Turn};
+use il_model::FirstProgram;
+
+/// A run that came to an ending, with the program and the image that it is of.
+#[derive(Drop)]
+pub struct RunRecord {
+    pub program: FirstProgram,
+    /// The code words, of which word i stands at 65,536 + 4i.
+    pub image: Vec<u32>,
+    /// Each turn, in order.
+    pub turns: Vec<Turn>,
+    /// Each request with its reply, in order.
+    pub history: Vec<Event>,
+    pub ending: Ending,
+}
+
+/// The status, and the run where there was one.
+#[derive(Drop)]
+pub struct Outcome {
+    pub status: u8,
+    pub kept: Option<RunRecord>,
+}

@@ -1,0 +1,147 @@
+// A whole run of an image.
+ghost use Rattle.std.specs.Prelude.{◌≡◌, ◌+◌, ◌*◌, ◌≤◌, IfOk, length};
+ghost use Rattle.interaction.specs.History.{Legal};
+ghost use Rattle.il_model.specs.WellFormed.{IsWellFormed};
+ghost use Rattle.run_top.specs.Store.{stays_live, store};
+ghost use Rattle.run_top.specs.Process.{begin, meaning, naming};
+ghost use Rattle.run_top.specs.Machine.{start};
+ghost use Rattle.run_top.specs.Gives.{thread_of};
+ghost use Rattle.run_top.specs.Code.{frame_words, image_of};
+ghost use Rattle.run_top.specs.Run.{IsRegular, IsRun, events_of, image_run};
+ghost use Rattle.run_top.specs.Executed.{AllExecuted, EndsSo};
+
+use crate::compile::compile;
+use crate::events::{Ending, Event, Reply, Request, Turn, What};
+use crate::machine::{Core, Gave, Mode};
+use crate::record::RunRecord;
+use crate::turns::turn;
+use il_model::FirstProgram;
+use mn_outside::NoMemory;
+use std::alloc::{AllocError, Global};
+
+// What a run leaves.
+#[derive(Drop)]
+struct Kept {
+    pub turns: Vec<Turn>,
+    pub history: Vec<Event>,
+    pub ending: Ending,
+}
+
+// Main's frame of so many words. At its head stand the caller's frame, the return address, the
+// method's node, the result's address, the CIL instruction, the frame's length and two zeros.
+fn main_frame(alloc: Global, words: usize) -> Result<Vec<u64>, AllocError>
+    requires { 8 ≤ words }
+    ensures { IfOk result (λ frame. frame.items ≡ (start words).frame) }
+{
+    let mut frame = vec![in alloc; 0; words]?;
+    frame[2] = 20;
+    frame[5] = words as u64;
+    Ok(frame)
+}
+
+// Thread 0 at Main, whose frame stands at 0x40000000 and whose code begins at code word 1.
+fn main_core() -> Core
+    ensures pc { result.pc ≡ (start 24).pc }
+    ensures x { result.x ≡ (start 24).x }
+    ensures mode { result.mode ≡ (start 24).mode }
+{
+    let mut x = [0; 32];
+    x[8] = 1073741824;
+    Core {
+        pc: 65540,
+        x,
+        mode: Mode::Code,
+    }
+}
+
+// Whether a live thread is live after its request.
+fn stays_live(request: &Request) -> bool
+    ensures { result ≡ stays_live request.now }
+{
+    match request {
+        Request::Print { form: _, word: _ } => true,
+        Request::Finish => false,
+    }
+}
+
+// At most so many turns of the image, from Main on. Each turn takes memory for its notes alone.
+fn run(alloc: Global, image: &[u32], words: usize, limit: u32) -> Result<Kept, AllocError>
+    requires words { 8 ≤ words }
+    requires regular { IsRegular (image_run image.now words limit).ending }
+    ensures { IfOk result (λ kept. IsRun (image_run image.now words limit) kept.turns.items kept.history.items kept.ending) }
+{
+    let mut core = main_core();
+    let mut main = main_frame(alloc, words)?;
+    let frame = main.as_mut_slice();
+    let mut turns = Vec::new(alloc);
+    let mut history = Vec::new(alloc);
+    let mut live = true;
+    for made in 0..limit {
+        if !live {
+            return Ok(Kept {
+                turns,
+                history,
+                ending: Ending::Done,
+            });
+        }
+        match turn(image, &mut core, frame) {
+            Gave::Did(what) => turns.push(Turn { thread: 0, what })?,
+            Gave::Asked(request) => {
+                history.push(Event {
+                    thread: 0,
+                    request,
+                    reply: Reply::Done,
+                })?;
+                turns.push(Turn {
+                    thread: 0,
+                    what: What::Action,
+                })?;
+                live = stays_live(&request);
+            }
+            Gave::Nothing => unreachable!(),
+        }
+    }
+    let ending = if live { Ending::Turns } else { Ending::Done };
+    Ok(Kept {
+        turns,
+        history,
+        ending,
+    })
+}
+
+/// Compiles a program and runs its image from Main on, under seed 0, for at most `limit` turns.
+/// There is no machine fault: a run ends where its thread has finished or its turns are used up.
+/// The only refusal is want of memory.
+pub(crate) fn run_program(
+    alloc: Global,
+    program: FirstProgram,
+    limit: u32,
+) -> Result<RunRecord, NoMemory>
+    requires program { IsWellFormed program.code.items }
+    ensures program { IfOk result (λ r. r.program.code.items ≡ program.code.items) }
+    ensures image { IfOk result (λ r. r.image.items ≡ image_of program.code.items) }
+
+    // Turns, history and ending are those of the image's run.
+    ensures run { IfOk result (λ r. IsRun (image_run r.image.items (frame_words program.code.items) limit) r.turns.items r.history.items r.ending) }
+
+    // The program's thread makes exactly these requests when it is given these replies, which the store gives.
+    ensures legal { IfOk result (λ r. Legal store naming (meaning program.code.items) begin (events_of r.history.items)) }
+    ensures executed { IfOk result (λ r. AllExecuted r.image.items r.turns.items) }
+    ensures ends { IfOk result (λ r. EndsSo limit r.turns.items r.history.items r.ending) }
+    ensures few { IfOk result (λ r. length r.turns.items ≤ 1024 * (length program.code.items + 1)) }
+{
+    let words = 8 + program.deepest_stack() + 16;
+    let Ok(image) = compile(alloc, program.code.as_slice()) else {
+        return Err(NoMemory);
+    };
+    let Ok(kept) = run(alloc, image.as_slice(), words, limit) else {
+        return Err(NoMemory);
+    };
+    Ok(RunRecord {
+        program,
+        image,
+        turns: kept.turns,
+        history: kept.history,
+        ending: kept.ending,
+    })
+}

@@ -1,0 +1,217 @@
+// Whole commands, over files and a sink in memory.
+use crate::record::Outcome;
+use crate::top::aot_main;
+use mn_outside::{Bytes, MemFiles, MemSink, Name};
+use std::alloc::{AllocError, Global};
+use std::test::Fail;
+
+// The text of a program with these instructions.
+fn program(alloc: Global, instrs: &str) -> Result<String, AllocError> {
+    format!(in alloc; ".class P {{ .method static void Main() {{ .entrypoint {instrs} ret }} }}")
+}
+
+const W: &str = "call void System.Console::WriteLine(int32)";
+
+// What a command leaves.
+#[derive(Drop)]
+struct Left {
+    outcome: Outcome,
+    files: MemFiles,
+    out: MemSink,
+}
+
+// A command over the one file `p.il`, where the calls with these numbers fail.
+fn run(
+    alloc: Global,
+    command: &str,
+    text: &str,
+    files_fail: &[u32],
+    out_fail: &[u32],
+) -> Result<Left, AllocError> {
+    let mut words = Vec::new(alloc);
+    for word in command.split_whitespace() {
+        words.push(Name::of(String::from_str(alloc, word)?))?;
+    }
+    let mut held = Vec::new(alloc);
+    held.push((
+        Name::of(String::from_str(alloc, "p.il")?),
+        Bytes::of(text.as_bytes().to_vec(alloc)?),
+    ))?;
+    let mut files = MemFiles {
+        held,
+        fail: files_fail.to_vec(alloc)?,
+        calls: 0,
+        faults: 0,
+    };
+    let mut out = MemSink {
+        written: Vec::new(alloc),
+        fail: out_fail.to_vec(alloc)?,
+        calls: 0,
+        faults: 0,
+    };
+    let outcome = aot_main(alloc, words.as_slice(), &mut files, &mut out);
+    Ok(Left {
+        outcome,
+        files,
+        out,
+    })
+}
+
+fn has_written(left: &Left, text: &str) -> bool {
+    left.out.written.as_slice() == text.as_bytes()
+}
+
+const WHOLE: &str = "exec p.il @all 0 4000000";
+
+// The sum takes 19 turns, of which the last ends the thread.
+#[test]
+fn prints_the_sum_of_two_and_three(rt: HostRuntime) -> Result<(), Fail> {
+    let alloc = rt.alloc();
+    let instrs = format!(in alloc; "ldc.i4 2 ldc.i4 3 add {W}")?;
+    let text = program(alloc, instrs.as_str())?;
+    let cases = [
+        (WHOLE, 0, "5\n", 1),
+        ("exec p.il @all 0 19", 0, "5\n", 1),
+        ("exec p.il @all 0 18", 5, "5\nStopped: Turns\n", 2),
+        ("exec p.il @all 0 1", 5, "Stopped: Turns\n", 1),
+    ];
+    for (command, status, written, puts) in cases {
+        let left = run(alloc, command, text.as_str(), &[], &[])?;
+        assert_eq!(rt; left.outcome.status, status, "{command}");
+        assert!(rt; has_written(&left, written), "{command}");
+        assert_eq!(rt; left.out.calls, puts, "{command}");
+        assert!(rt; left.outcome.kept.is_some(), "{command}");
+    }
+    Ok(())
+}
+
+#[test]
+fn a_sum_wraps(rt: HostRuntime) -> Result<(), Fail> {
+    let alloc = rt.alloc();
+    let instrs = format!(in alloc; "ldc.i4 2147483647 ldc.i4 1 add {W} ldc.i4 -7 {W}")?;
+    let text = program(alloc, instrs.as_str())?;
+    let left = run(alloc, WHOLE, text.as_str(), &[], &[])?;
+    assert_eq!(rt; left.outcome.status, 0);
+    assert!(rt; has_written(&left, "-2147483648\n-7\n"));
+    Ok(())
+}
+
+// A program that pushes so many ones and prints their sum.
+fn ones(alloc: Global, count: u32) -> Result<String, AllocError> {
+    let mut instrs = String::new(alloc);
+    for _ in 0..count {
+        instrs.push_str("ldc.i4 1 ")?;
+    }
+    for _ in 1..count {
+        instrs.push_str("add ")?;
+    }
+    instrs.push_str(W)?;
+    program(alloc, instrs.as_str())
+}
+
+#[test]
+fn a_stack_is_at_most_120_deep(rt: HostRuntime) -> Result<(), Fail> {
+    let alloc = rt.alloc();
+    let deepest = ones(alloc, 120)?;
+    let left = run(alloc, WHOLE, deepest.as_str(), &[], &[])?;
+    assert_eq!(rt; left.outcome.status, 0);
+    assert!(rt; has_written(&left, "120\n"));
+    let deeper = ones(alloc, 121)?;
+    let left = run(alloc, WHOLE, deeper.as_str(), &[], &[])?;
+    assert_eq!(rt; left.outcome.status, 2);
+    assert!(rt; has_written(&left, "Text 1:1 FirstForm\n"));
+    Ok(())
+}
+
+#[test]
+fn a_failed_put_is_the_last(rt: HostRuntime) -> Result<(), Fail> {
+    let alloc = rt.alloc();
+    let instrs = format!(in alloc; "ldc.i4 1 {W} ldc.i4 2 {W} ldc.i4 3 {W}")?;
+    let text = program(alloc, instrs.as_str())?;
+    let left = run(alloc, WHOLE, text.as_str(), &[], &[1])?;
+    assert_eq!(rt; left.outcome.status, 9);
+    assert!(rt; has_written(&left, "1\n"));
+    assert_eq!(rt; (left.out.calls, left.out.faults), (2, 1));
+    assert!(rt; left.outcome.kept.is_some());
+    Ok(())
+}
+
+#[test]
+fn a_file_that_fails_is_named(rt: HostRuntime) -> Result<(), Fail> {
+    let alloc = rt.alloc();
+    let text = program(alloc, "")?;
+    let left = run(alloc, WHOLE, text.as_str(), &[0], &[])?;
+    assert_eq!(rt; left.outcome.status, 8);
+    assert!(rt; has_written(&left, "File p.il\n"));
+    assert!(rt; left.outcome.kept.is_none());
+    let left = run(alloc, "exec q.il @all 0 1", text.as_str(), &[], &[])?;
+    assert_eq!(rt; left.outcome.status, 8);
+    assert!(rt; has_written(&left, "File q.il\n"));
+    let left = run(alloc, WHOLE, text.as_str(), &[0], &[0])?;
+    assert_eq!(rt; left.outcome.status, 9);
+    assert!(rt; has_written(&left, ""));
+    Ok(())
+}
+
+#[test]
+fn other_words_are_no_command(rt: HostRuntime) -> Result<(), Fail> {
+    let alloc = rt.alloc();
+    let text = program(alloc, "")?;
+    let commands = [
+        "",
+        "exec p.il",
+        "exec p.il @all 0",
+        "exec p.il @all 0 1 1",
+        "mean p.il @all 0 1",
+        "exec -p.il @all 0 1",
+        "exec p.il @none 0 1",
+        "exec p.il @all 1 1",
+        "exec p.il @all 0 0",
+        "exec p.il @all 0 01",
+        "exec p.il @all 0 +1",
+        "exec p.il @all 0 -1",
+        "exec p.il @all 0 1x",
+        "exec p.il @all 0 4000001",
+        "exec p.il @all 0 4294967297",
+    ];
+    for command in commands {
+        let left = run(alloc, command, text.as_str(), &[], &[])?;
+        assert_eq!(rt; left.outcome.status, 1, "{command}");
+        assert!(rt; has_written(&left, "Usage\n"), "{command}");
+        assert_eq!(rt; (left.files.calls, left.out.calls), (0, 1), "{command}");
+    }
+    Ok(())
+}
+
+#[test]
+fn texts_one_step_outside_the_form(rt: HostRuntime) -> Result<(), Fail> {
+    let alloc = rt.alloc();
+    let texts = [
+        "",
+        ".class P {",
+        ".class P { .method static void Main() { .entrypoint ret } } }",
+        ".class P { .method static void Main() { .entrypoint } }",
+        ".class P { .method static void Main() { .entrypoint ret ret } }",
+        ".class P { .method static void Main() { ret } }",
+        ".class P { .method void Main() { .entrypoint ret } }",
+        ".class P { .method static int32 Main() { .entrypoint ret } }",
+        ".class P { .method static void Main(int32) { .entrypoint ret } }",
+        ".class P { .method static void Main() { .entrypoint ret } } // and a comment",
+        ".class P { .field int32 f .method static void Main() { .entrypoint ret } }",
+        ".class P<T> { .method static void Main() { .entrypoint ret } }",
+        ".class P { .method static void Main() { .entrypoint L: ret } }",
+        ".class P { .method static void Main() { .entrypoint ldc.i4 1 ret } }",
+        ".class P { .method static void Main() { .entrypoint add ret } }",
+        ".class P { .method static void Main() { .entrypoint ldc.i4 0x1 call void System.Console::WriteLine(int32) ret } }",
+        ".class P { .method static void Main() { .entrypoint ldc.i4 2147483648 call void System.Console::WriteLine(int32) ret } }",
+        ".class P { .method static void Main() { .entrypoint ldc.i4 1 call void System.Console::WriteLine(int64) ret } }",
+        ".class P { .method static void Main() { .entrypoint ldc.i4.1 call void System.Console::WriteLine(int32) ret } }",
+    ];
+    for text in texts {
+        let left = run(alloc, WHOLE, text, &[], &[])?;
+        assert_eq!(rt; left.outcome.status, 2, "{text}");
+        assert!(rt; has_written(&left, "Text 1:1 FirstForm\n"), "{text}");
+        assert!(rt; left.outcome.kept.is_none(), "{text}");
+    }
+    Ok(())
+}

@@ -1,0 +1,124 @@
+// What is written: a line for each print, and the line of each status.
+ghost use Rattle.std.specs.Prelude.{◌≡◌, ◌++◌, IfOk, string_bytes};
+ghost use Rattle.mn_outside.specs.Causes.{Wrote};
+ghost use Rattle.run_top.specs.declared.events.Form.TheVariants.{Number};
+ghost use Rattle.run_top.specs.declared.events.Request.TheVariants.{Print as Printed};
+ghost use Rattle.run_top.specs.History.{line_of, output};
+ghost use Rattle.run_top.specs.Written.{ending_line, line, shown};
+ghost use Rattle.run_top.specs.Written.{file_line as the_file_line, status_of as the_status_of};
+
+use crate::events::{Ending, Event, Form, Request};
+use crate::record::RunRecord;
+use mn_outside::{Failed, NoMemory, Refused, Sink};
+use std::alloc::{AllocError, Global};
+
+pub(crate) const USAGE: &str = "Usage\n";
+
+pub(crate) const FIRST_FORM: &str = "Text 1:1 FirstForm\n";
+
+pub(crate) const NO_MEMORY: &str = "No memory\n";
+
+const TURNS_ARE_USED_UP: &str = "Stopped: Turns\n";
+
+// Puts a line.
+pub(crate) fn put<K: Sink>(out: &mut K, line: &str) -> Result<(), Refused<Failed>>
+    ensures { Wrote (K.written out.old) (K.written out.new) (K.faults out.old) (K.faults out.new) result line.now }
+{
+    out.put(line.as_bytes())
+}
+
+// The line of a file that could not be read.
+pub(crate) fn file_line(alloc: Global, name: &str) -> Result<String, NoMemory>
+    ensures { IfOk result (λ line. string_bytes line ≡ the_file_line name.now) }
+{
+    match joined(alloc, "File ", name) {
+        Ok(line) => Ok(line),
+        Err(_) => Err(NoMemory),
+    }
+}
+
+// Two texts as one line.
+fn joined(alloc: Global, first: &str, second: &str) -> Result<String, AllocError>
+    ensures { IfOk result (λ joined. string_bytes joined ≡ line (first.now ++ second.now)) }
+{
+    let mut joined = String::from_str(alloc, first)?;
+    joined.push_str(second)?;
+    joined.push_str("\n")?;
+    Ok(joined)
+}
+
+// The line of a printed word.
+fn number_line(alloc: Global, word: u64) -> Result<String, AllocError>
+    ensures { IfOk result (λ line. string_bytes line ≡ line_of (Printed Number word)) }
+{
+    let mut line = word.cast_signed().to_string(alloc)?;
+    line.push_str("\n")?;
+    Ok(line)
+}
+
+// Puts the line of an event.
+fn show_event<K: Sink>(alloc: Global, event: &Event, out: &mut K) -> Result<(), Refused<Failed>>
+    ensures { Wrote (K.written out.old) (K.written out.new) (K.faults out.old) (K.faults out.new) result (line_of event.now.request) }
+{
+    match event.request {
+        Request::Print {
+            form: Form::Number,
+            word,
+        } => match number_line(alloc, word) {
+            Ok(line) => put(out, line.as_str()),
+            Err(_) => Err(Refused::NoMemory),
+        },
+        Request::Finish => Ok(()),
+    }
+}
+
+// Puts the lines of a history, one at a time.
+fn show_history<K: Sink>(
+    alloc: Global,
+    history: &[Event],
+    out: &mut K,
+) -> Result<(), Refused<Failed>>
+    ensures { Wrote (K.written out.old) (K.written out.new) (K.faults out.old) (K.faults out.new) result (output history.now) }
+{
+    for event in history {
+        match show_event(alloc, event, out) {
+            Ok(()) => {}
+            Err(refused) => return Err(refused),
+        }
+    }
+    Ok(())
+}
+
+// Puts the line of an ending, where it has one.
+fn show_ending<K: Sink>(ending: Ending, out: &mut K) -> Result<(), Refused<Failed>>
+    ensures { Wrote (K.written out.old) (K.written out.new) (K.faults out.old) (K.faults out.new) result (ending_line ending) }
+{
+    match ending {
+        Ending::Done => Ok(()),
+        Ending::Turns => put(out, TURNS_ARE_USED_UP),
+    }
+}
+
+// Puts the lines of a run.
+pub(crate) fn show_run<K: Sink>(
+    alloc: Global,
+    run: &RunRecord,
+    out: &mut K,
+) -> Result<(), Refused<Failed>>
+    ensures { Wrote (K.written out.old) (K.written out.new) (K.faults out.old) (K.faults out.new) result (shown run.now) }
+{
+    match show_history(alloc, run.history.as_slice(), out) {
+        Ok(()) => show_ending(run.ending, out),
+        Err(refused) => Err(refused),
+    }
+}
+
+// The status of an ending.
+pub(crate) fn status_of(ending: Ending) -> u8
+    ensures { result ≡ the_status_of ending }
+{
+    match ending {
+        Ending::Done => 0,
+        Ending::Turns => 5,
+    }
+}
