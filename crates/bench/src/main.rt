@@ -2,6 +2,7 @@
 #![tactic(auto)]
 
 mod cases;
+mod memory;
 
 use std::alloc::{AllocError, Global};
 use std::rt::Runtime;
@@ -37,8 +38,12 @@ fn main(rt: HostRuntime) -> io::Result<()> {
         let rounds = number(words.as_slice(), 2);
         let found = cases::tokens_of(rt.alloc(), size as usize, rounds)?;
         println!(rt; "{found} tokens")?;
+    } else if case == "steps" {
+        let steps = number(words.as_slice(), 1);
+        let (counter, refused) = cases::steps_of(rt.alloc(), u64::from(steps))?;
+        println!(rt; "x5 {counter}, {refused} refused")?;
     } else {
-        println!(rt; "cases: tokens SIZE ROUNDS")?;
+        println!(rt; "cases: tokens SIZE ROUNDS, steps COUNT")?;
     }
     Ok(())
 }
