@@ -11,6 +11,7 @@ pub mod Classes
 pub mod Ops
 pub mod Library
 pub mod Find
+pub mod Kinds
 pub mod Names
 pub mod Bounds
 pub mod LookUp
