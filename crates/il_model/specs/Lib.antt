@@ -12,6 +12,8 @@ pub mod Ops
 pub mod Library
 pub mod Find
 pub mod Kinds
+pub mod Found
+pub mod Entries
 pub mod Names
 pub mod Bounds
 pub mod LookUp

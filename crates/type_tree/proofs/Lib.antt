@@ -3,3 +3,4 @@ pub mod VariablesLemmas
 pub mod PositionsLemmas
 pub mod SubstitutionLemmas
 pub mod PrintedLemmas
+pub mod SameLemmas

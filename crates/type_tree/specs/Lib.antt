@@ -2,3 +2,4 @@ pub mod Tree
 pub mod Positions
 pub mod Substitution
 pub mod Printed
+pub mod Same
