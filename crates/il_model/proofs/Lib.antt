@@ -4,3 +4,5 @@ pub mod Sample
 pub mod Deepest
 pub mod SampleNames
 pub mod CanonicalLemmas
+pub mod TreesLemmas
+pub mod TypeExamples

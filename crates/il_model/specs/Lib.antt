@@ -20,3 +20,12 @@ pub mod LookUp
 pub mod Canonical
 pub mod Accepted
 pub mod WellFormed
+pub mod Trees
+pub mod Bases
+pub mod Interfaces
+pub mod Layouts
+pub mod Signatures
+pub mod Slots
+pub mod Assignable
+pub mod Admission
+pub mod ClassRules
