@@ -54,7 +54,6 @@ method_var_Decides m (ClassVar n) = ((λ e. cc), (λ e. cc))
 of_tops : (top : TNode TExpr) (t : TExpr) (b : Bool) → Decides b (top ≡ top_of t) → Decides b (tree_of top ≡ t)
 of_tops top t b d = Decides-like b (λ e. ap tree_of e ∙ tree_of-top_of t) (λ e. sym (top_of-tree_of top) ∙ ap top_of e) d
 
-
 at_node : (h : Head) (ts : List TExpr) → AllByRecursion Is ts → Is (node h ts)
 unfolding Is
 at_node h ts all other =
