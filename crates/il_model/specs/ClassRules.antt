@@ -14,7 +14,7 @@ use Rattle.il_model.specs.declared.program.Program.{Program}
 use Rattle.il_model.specs.Find.{class_number_of, class_of}
 use Rattle.il_model.specs.Found.{method_at}
 use Rattle.il_model.specs.Entries.{arguments_of}
-use Rattle.il_model.specs.Kinds.{is_struct_class}
+use Rattle.il_model.specs.Kinds.{is_struct_kind, is_struct_class}
 use Rattle.il_model.specs.Trees.{is_among, trees_in, without_repeats}
 use Rattle.il_model.specs.Bases.{with_args_of, own_of, bases_of}
 use Rattle.il_model.specs.Layouts.{fields_in, most_trees}
@@ -59,13 +59,13 @@ abbrev pub is_base_class : Option ClassDef → Bool
 is_base_class (Some c) = is_base_kind c.kind
 is_base_class None = false
 
-abbrev pub is_string_number : Option ℕ → Bool
-is_string_number (Some number) = number == 1
-is_string_number None = false
+abbrev pub is_number : ℕ → Option ℕ → Bool
+is_number number None = false
+is_number number (Some n) = n == number
 
 -- whether a type may stand as a base: a plain or abstract class that is not `string`
 abbrev pub may_be_base : Program → TExpr → Bool
-may_be_base program t = is_base_class (class_of program t) && not (is_string_number (class_number_of t))
+may_be_base program t = is_base_class (class_of program t) && not (is_number 1 (class_number_of t))
 
 abbrev pub uppers_in : Option ClassDef → List ℕ
 uppers_in None = []
@@ -101,6 +101,12 @@ pub record HasHierarchy (program : Program) (number : ℕ) (c : ClassDef) : Type
 abbrev pub is_in_own_closure : Program → TExpr → Bool
 is_in_own_closure program t = is_struct_class (class_of program t) && is_among (flat_map (closure_of program) (steps_of program t)) t
 
+-- whether a struct's definition is reached from itself, with whatever arguments: then no value of it ends
+abbrev pub comes_back : Program → ℕ → ClassDef → Bool
+comes_back program number c =
+    is_struct_kind c.kind &&
+    list_any (λ t. is_number number (class_number_of t)) (flat_map (closure_of program) (steps_of program (own_of program number)))
+
 -- how many fields a class and its bases have, static ones counted
 abbrev pub field_count : Program → TExpr → ℕ
 field_count program t = sum_by (λ base. length (fields_in (class_of program base))) (bases_of program t)
@@ -112,9 +118,10 @@ most_own_fields = 4096
 abbrev pub fits_interface : ClassDef → Bool
 fits_interface c = not (is_interface_kind c.kind) || (length c.fields == 0)
 
--- the rule on layouts: no field, static or not, of a struct's own closure; no fields in an interface; not too many. No field has the type void
+-- the rule on layouts: no field, static or not, of a struct's own closure, whether the type of the field or the definition of the struct comes back; no fields in an interface; not too many. No field has the type void
 pub record HasLayout (program : Program) (number : ℕ) (c : ClassDef) : Type 0 where
   pub no_own : list_any (is_in_own_closure program) (kinds_written c) ≡ false
+  pub no_return : comes_back program number c ≡ false
   pub interface : fits_interface c ≡ true
   pub few : field_count program (own_of program number) ≤ most_own_fields
 

@@ -45,8 +45,9 @@ fn own_field(named: &FRef, class: &ClassDef, most: usize) -> Option<u16>
     }
 }
 
-// The definition of the class that a type names.
-fn class_of<'a>(program: &'a Program, kind: &TExpr) -> Option<&'a ClassDef>
+/// The definition of the class that a type names; None where it names none, or none of the program's. No
+/// memory is taken.
+pub fn class_of<'a>(program: &'a Program, kind: &TExpr) -> Option<&'a ClassDef>
     ensures { option_copied result ≡ class_of program.now kind.now }
 {
     match kind.top() {
@@ -130,7 +131,8 @@ fn same_name(first: &Name, second: &Name) -> bool
     first.text() == second.text()
 }
 
-fn same_result(first: &Option<TExpr>, second: &Option<TExpr>) -> bool
+/// Whether the results are equal. No memory is taken.
+pub fn same_result(first: &Option<TExpr>, second: &Option<TExpr>) -> bool
     ensures { IsTrue result ↔ (first.now ≡ second.now) }
 {
     match (first, second) {
@@ -151,7 +153,8 @@ fn same_param(first: &PType, second: &PType) -> bool
     }
 }
 
-fn same_params(first: &[PType], second: &[PType]) -> bool
+/// Whether the lists are equal, parameter by parameter. No memory is taken.
+pub fn same_params(first: &[PType], second: &[PType]) -> bool
     ensures { IsTrue result ↔ (first.now ≡ second.now) }
 {
     if first.len() != second.len() {

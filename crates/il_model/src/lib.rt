@@ -22,7 +22,7 @@ mod written;
 
 pub use class::{ClassDef, ClassKind, FieldDef, VarDef};
 pub use entry::{Def, Entry};
-pub use find::{find_field, find_method};
+pub use find::{class_of, find_field, find_method, same_params, same_result};
 pub use first::{FirstOp, FirstProgram};
 pub use form::Form;
 pub use key::{BodyRow, Key, KeyPart};
