@@ -1,0 +1,6 @@
+pub mod EqualityLemmas
+pub mod BasesLemmas
+pub mod AssignableLemmas
+pub mod ListLemmas
+pub mod ListingLemmas
+pub mod HierarchyLemmas
