@@ -75,7 +75,7 @@ module _ (program : Program) where
   upper_ends n number (u ∷ ts) t all h is =
       elim h [
         | inl same ↦ first_of_two (ends n number) (list_all (λ upper. ends n upper) (filter_map class_number_of ts))
-          (subst (λ (o : Option ℕ). list_all (λ upper. ends n upper) (cons_option o (filter_map class_number_of ts)) ≡ true) (ap class_number_of same ∙ is) all)
+            (subst (λ (o : Option ℕ). list_all (λ upper. ends n upper) (cons_option o (filter_map class_number_of ts)) ≡ true) (ap class_number_of same ∙ is) all)
         | inr r ↦ upper_ends n number ts t (rest_ends n (class_number_of u) (filter_map class_number_of ts) all) r is
       ]
 
@@ -105,10 +105,10 @@ module _ (program : Program) where
       let rule = rules.each number c is in
       all_pass (λ u. tends program n u) (ups_in t (Some c))
       (λ u h. elim (has_split (option_to_list (option_map (with_args_of t) c.base)) (map (with_args_of t) c.interfaces) u h) [
-      | inl base ↦ from_map (with_args_of t) (tends program n u ≡ true) (option_to_list c.base) u (subst (λ xs. Has xs u) (base_mapped t c.base) base) (λ x in_xs e. subst (λ v. tends program n v ≡ true) e
-        (one_up n number t x c lower is all (has_left (option_to_list c.base) c.interfaces x in_xs) (base_numbered x (each_passes (may_be_base program) (option_to_list c.base) rule.base x in_xs))))
-      | inr each ↦ from_map (with_args_of t) (tends program n u ≡ true) c.interfaces u each (λ x in_xs e. subst (λ v. tends program n v ≡ true) e
-        (one_up n number t x c lower is all (has_right (option_to_list c.base) c.interfaces x in_xs) (interface_numbered x (each_passes (is_interface program) c.interfaces rule.interfaces x in_xs))))
+        | inl base ↦ from_map (with_args_of t) (tends program n u ≡ true) (option_to_list c.base) u (subst (λ xs. Has xs u) (base_mapped t c.base) base) (λ x in_xs e. subst (λ v. tends program n v ≡ true) e
+            (one_up n number t x c lower is all (has_left (option_to_list c.base) c.interfaces x in_xs) (base_numbered x (each_passes (may_be_base program) (option_to_list c.base) rule.base x in_xs))))
+        | inr each ↦ from_map (with_args_of t) (tends program n u ≡ true) c.interfaces u each (λ x in_xs e. subst (λ v. tends program n v ≡ true) e
+            (one_up n number t x c lower is all (has_right (option_to_list c.base) c.interfaces x in_xs) (interface_numbered x (each_passes (is_interface program) c.interfaces rule.interfaces x in_xs))))
       ])
 
   tends_by_class : EachClass HasHierarchy program → (n : ℕ) → Tends n

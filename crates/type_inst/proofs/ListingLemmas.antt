@@ -144,9 +144,10 @@ module _ (program : Program) where
   one_base : (k levels : ℕ) (u : TExpr) (all : List TExpr) → k ≤ levels → ((j : ℕ) → j < k → Lists j levels) → tends k u ≡ true → Closed k all →
       (listed program levels all u ≡ joined all (met levels u)) × Closed k (joined all (met levels u))
   one_base zero levels u all le lists ends closed = cc
-  one_base (suc k) levels u all le lists ends closed =
-      (lists k (omega arith) u all ends (closed_less k (suc k) all (omega arith) closed),
-      subst (λ xs. Closed (suc k) (joined all xs)) (sym (met_same (suc k) levels u le ends)) (closed_base (suc k) all u ends closed))
+  one_base (suc k) levels u all le lists ends closed = (
+    lists k (omega arith) u all ends (closed_less k (suc k) all (omega arith) closed),
+    subst (λ xs. Closed (suc k) (joined all xs)) (sym (met_same (suc k) levels u le ends)) (closed_base (suc k) all u ends closed),
+  )
 
   one_own_if : (k levels : ℕ) (u : TExpr) (all : List TExpr) (b : Bool) → is_among all u ≡ b → k ≤ levels → ((j : ℕ) → j < k → Lists j levels) →
       tends k u ≡ true → Closed k all → listed_unless (listed program levels) all u ≡ joined all (u ∷ met levels u)
@@ -163,9 +164,10 @@ module _ (program : Program) where
 
   one_own : (k levels : ℕ) (u : TExpr) (all : List TExpr) → k ≤ levels → ((j : ℕ) → j < k → Lists j levels) → tends k u ≡ true → Closed k all →
       (listed_unless (listed program levels) all u ≡ joined all (u ∷ met levels u)) × Closed k (joined all (u ∷ met levels u))
-  one_own k levels u all le lists ends closed =
-      (one_own_if k levels u all (is_among all u) refl le lists ends closed,
-      subst (λ xs. Closed k (joined all (u ∷ xs))) (sym (met_same k levels u le ends)) (closed_own k all u ends closed))
+  one_own k levels u all le lists ends closed = (
+    one_own_if k levels u all (is_among all u) refl le lists ends closed,
+    subst (λ xs. Closed k (joined all (u ∷ xs))) (sym (met_same k levels u le ends)) (closed_own k all u ends closed),
+  )
 
   lists_all : (levels k : ℕ) → k < levels → Lists k levels
   lists_all zero k le t all ends closed = absurd (omega (arith, le))

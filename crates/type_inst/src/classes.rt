@@ -20,11 +20,7 @@ pub(crate) fn arguments_of(kind: &TExpr) -> &[TExpr]
 }
 
 // A type of a class's definition, with the arguments of this type of the class.
-pub(crate) fn with_args_of(
-    alloc: Global,
-    kind: &TExpr,
-    part: &TExpr,
-) -> Result<TExpr, NoMemory>
+pub(crate) fn with_args_of(alloc: Global, kind: &TExpr, part: &TExpr) -> Result<TExpr, NoMemory>
     ensures { IfOk result (λ whole. whole ≡ with_args_of kind.now part.now) }
 {
     subst_whole(alloc, part, arguments_of(kind), &[])

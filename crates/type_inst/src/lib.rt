@@ -1,13 +1,15 @@
 //! What is asked of types, with and without variables: bases, interfaces and assignability.
 #![tactic(auto)]
 
-mod assignability;
 mod ascent;
+mod assignability;
 mod classes;
 mod equality;
 mod implementing;
+#[cfg(test)]
+mod tests;
 
-pub use assignability::assignable;
 pub use ascent::bases;
+pub use assignability::assignable;
 pub use il_model::{Layout, Limit, MethodTree};
 pub use implementing::interfaces;
