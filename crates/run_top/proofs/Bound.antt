@@ -10,8 +10,8 @@ use Rattle.interaction.specs.Thread.{Turn, Makes, Turns, cost_of}
 use Rattle.interaction.specs.Thread as thread
 use Rattle.interaction.specs.Run.{Taken, turns_of}
 use Rattle.interaction.specs.Progress.{spent, gained, gains}
-use Rattle.run_top.specs.declared.events.Request.{Request}
-use Rattle.run_top.specs.Replies.{Reply}
+use Rattle.store_object.specs.declared.request.Request.{Request}
+use Rattle.store_object.specs.declared.reply.Reply.{Reply}
 use Rattle.run_top.specs.Process.{Doing, act_of, meaning, naming}
 use Rattle.run_top.specs.Machine.{Thread, Wish, want}
 use Rattle.run_top.proofs.TurnKinds.{Kind, kind_of}

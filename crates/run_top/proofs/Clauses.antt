@@ -4,25 +4,26 @@ use Rattle.std.proofs.lemmas.List.{length-map}
 use Rattle.il_model.specs.declared.first.FirstOp.{FirstOp}
 use Rattle.il_model.specs.WellFormed.{IsWellFormed}
 use Rattle.interaction.specs.Process.{Next}
-use Rattle.interaction.specs.Object.{replayed}
 use Rattle.interaction.specs.History.{Legal}
 use Rattle.interaction.specs.Run.{Outcome, Ending, Done as AllDone, TurnsUsed, StuckAt, FullAt, Idle, ends_in, turns_of}
 use Rattle.interaction.proofs.Joining.{loose_progress}
 use Rattle.interaction.proofs.RunLoose.{Sane, run_sane, run_is_loose}
-use Rattle.run_top.specs.declared.events.Request.{Request}
-use Rattle.run_top.specs.declared.events.Event.{Event as KeptEvent}
-use Rattle.run_top.specs.declared.events.Turn.{Turn as KeptTurn}
-use Rattle.run_top.specs.declared.events.Ending.{Ending as KeptEnding}
-use Rattle.run_top.specs.declared.events.Ending.TheVariants.{Done, Turns}
-use Rattle.run_top.specs.Replies.{Reply}
-use Rattle.run_top.specs.Store.{Store, opening, store, is_live}
+use Rattle.interaction.specs.declared.history.Event.{Event}
+use Rattle.store_object.specs.declared.ending.Ending.{Ending as KeptEnding}
+use Rattle.store_object.specs.declared.ending.Ending.TheVariants as kept
+use Rattle.store_object.specs.declared.reply.Reply.{Reply}
+use Rattle.store_object.specs.declared.request.Request.{Request}
+use Rattle.store_object.specs.Replay.{replayed, store}
+use Rattle.store_object.specs.Store.{Store, is_live}
+use Rattle.store_object.proofs.Histories.{replayed_is}
+use Rattle.run_top.specs.declared.record.Turn.{Turn}
 use Rattle.run_top.specs.Process.{meaning, naming, main, begin}
 use Rattle.run_top.specs.Machine.{Thread, start}
 use Rattle.run_top.specs.Code.{image_of, frame_words}
-use Rattle.run_top.specs.Run.{numbers, image_run, events_of, IsRegular, IsRun}
-use Rattle.run_top.specs.Executed.{AllExecuted, EndsSo, lives_after}
+use Rattle.run_top.specs.Run.{numbers, image_run, IsRegular, IsRun}
+use Rattle.run_top.specs.Executed.{AllExecuted, AllFirst, EndsSo, lives_after}
 use Rattle.run_top.proofs.OneThread.{store_of}
-use Rattle.run_top.proofs.AllRuns.{Closes, Ended, run_ended, executed}
+use Rattle.run_top.proofs.AllRuns.{Closes, Ended, all_first, run_ended, executed}
 use Rattle.run_top.proofs.Follows.{At, sides, goes_on}
 use Rattle.run_top.proofs.Image.{Fit, Held, Known, machine, machine_laws, together, begins_so, stuck_never, runs_well}
 use Rattle.run_top.proofs.Bound.{few_steps, spent_all, gains_none, its_turns}
@@ -56,22 +57,29 @@ module _ (ops : List FirstOp) (well : IsWellFormed ops) (limit : ℕ) where
       let steps = few_steps ops advances.talk (length ops + 1) (omega arith, omega arith) in
       omega (arith, advances.paid, steps, spent_all advances.turns, gains_none advances.turns, its_turns (image_of ops) whole.world.turns its_end.sound)
 
-  module _ (turns : List KeptTurn) (history : List KeptEvent) (ending : KeptEnding) (run : IsRun whole turns history ending) where
-    pub legal : Legal store naming (meaning ops) begin (events_of history)
+  module _ (turns : List Turn) (history : List (Event Request Reply)) (ending : KeptEnding) (run : IsRun whole turns history ending) where
+    pub legal : Legal store naming (meaning ops) begin history
     legal = subst (Legal store naming (meaning ops) begin) (sym run.history_is) (runs_well ops well limit).legal
 
     pub all_executed : AllExecuted (image_of ops) turns
-    all_executed = executed (image_of ops) turns whole.world.turns run.turns_are its_end.sound
+    all_executed = subst (AllExecuted (image_of ops)) (sym run.turns_are) (executed (image_of ops) whole.world.turns its_end.sound)
+
+    pub requests : AllFirst history
+    requests = subst AllFirst (sym run.history_is) (all_first whole.world.history its_end.asks)
 
     same_length : length turns ≡ length whole.world.turns
-    same_length = sym (length-map turns _) ∙ ap length run.turns_are ∙ length-map whole.world.turns _
+    same_length = ap length run.turns_are ∙ length-map whole.world.turns _
 
     pub few : length turns ≤ 1024 * (length ops + 1)
     few = subst (λ n. n ≤ 1024 * (length ops + 1)) (sym same_length) few_turns
 
     lives : (live : Bool) → whole.world.store ≡ store_of live → lives_after history ≡ is_live (store_of live) 0
-    lives live is = ap (λ h. is_live (replayed store opening h) 0) run.history_is ∙ ap (λ x. is_live x 0) (sym its_world.runs.stored ∙ is)
+    lives live is = ap (λ h. is_live (replayed h) 0) run.history_is ∙ ap (λ x. is_live x 0) (replayed_is whole.world.history ∙ sym its_world.runs.stored ∙ is)
 
-  pub ends_so : (turns : List KeptTurn) (history : List KeptEvent) (ending : KeptEnding) → IsRun whole turns history ending → EndsSo limit turns history ending
-  ends_so turns history Done run = let closes = subst (Closes limit whole.world) (sym run.ending_is) its_end.closes in lives turns history Done run false closes
-  ends_so turns history Turns run = let closes = subst (Closes limit whole.world) (sym run.ending_is) its_end.closes in (same_length turns history Turns run ∙ closes.0, lives turns history Turns run true closes.1)
+  pub ends_so : (turns : List Turn) (history : List (Event Request Reply)) (ending : KeptEnding) → IsRun whole turns history ending → EndsSo limit turns history ending
+  ends_so turns history kept.Done run = let closes = subst (Closes limit whole.world) run.ending_is its_end.closes in lives turns history kept.Done run false closes
+  ends_so turns history (kept.Uncaught kind) run = run.ending_is
+  ends_so turns history kept.Turns run = let closes = subst (Closes limit whole.world) run.ending_is its_end.closes in (same_length turns history kept.Turns run ∙ closes.0, lives turns history kept.Turns run true closes.1)
+  ends_so turns history (kept.Stopped why) run = run.ending_is
+  ends_so turns history (kept.Full region key) run = run.ending_is
+  ends_so turns history (kept.Fault fault) run = run.ending_is

@@ -13,12 +13,12 @@ use Rattle.interaction.specs.Process.{Next, Ask as ProcessAsk, Over as ProcessOv
 use Rattle.interaction.specs.Thread.{Go, Ask}
 use Rattle.interaction.specs.Simulation.{Sides, Keeps, Onward}
 use Rattle.interaction.specs.Simulation as keeps
-use Rattle.run_top.specs.declared.events.Form.TheVariants.{Number}
-use Rattle.run_top.specs.declared.events.Request.{Request}
-use Rattle.run_top.specs.declared.events.Request.TheVariants.{Print as PrintRequest, Finish}
+use Rattle.store_object.specs.declared.request.Form.TheVariants.{Number}
+use Rattle.store_object.specs.declared.request.Request.{Request}
+use Rattle.store_object.specs.declared.request.Request.TheVariants.{Print as PrintRequest, Finish}
+use Rattle.store_object.specs.declared.reply.Reply.{Reply}
 use Rattle.run_top.specs.declared.machine.Mode.TheVariants.{Code, Service, Leaving}
 use Rattle.run_top.specs.Values.{sign_extended, low_32, int32_word, int32_sum}
-use Rattle.run_top.specs.Replies.{Reply}
 use Rattle.run_top.specs.Process.{Frame, Doing, next, act_of, meaning, naming}
 use Rattle.run_top.specs.Machine.{Thread, extended_12, served, want}
 use Rattle.run_top.specs.Code.{instrs_of, high_bits, offset}

@@ -1,9 +1,9 @@
 -- A compiled program's image is sound: what its instance owes, and what each of its runs has.
-use Rattle.std.proofs.Common.{◌≡◌, ◌<◌, ℕ, zero, suc, ◌+◌, ◌-◌, List, [], ◌∷◌, ◌++◌, map, length, length-append, Bool, true, false, Option, Some, None, refl, ap, ◌∙◌, subst, arith, append_assoc, eq-eqb, inl, inr}
-use Rattle.std.specs.Prelude.{slice_get, slice_set, unwrap_or, option_map, not, ◌==◌, if◌then◌else◌}
+use Rattle.std.proofs.Common.{◌≡◌, ◌<◌, ℕ, zero, suc, ◌+◌, ◌-◌, List, [], ◌∷◌, ◌++◌, map, length, length-append, Bool, true, false, Option, Some, None, refl, sym, ap, ◌∙◌, subst, arith, append_assoc, inl, inr}
+use Rattle.std.specs.Prelude.{◌⊎◌, ◌&&◌, ◌==◌, if◌then◌else◌, slice_get}
 use Rattle.std.proofs.Math.Seq.{get_or-append_seam}
-use Rattle.std.proofs.lemmas.Option.{slice_get-get_or, slice_get_within}
-use Rattle.std.proofs.lemmas.List.{length-set, length-replicate}
+use Rattle.std.proofs.lemmas.Option.{slice_get-get_or}
+use Rattle.std.proofs.lemmas.List.{length-replicate}
 use Rattle.il_model.specs.declared.first.FirstOp.{FirstOp}
 use Rattle.il_model.specs.declared.first.FirstOp.TheVariants.{Push, Add, Print as PrintOp, Ret}
 use Rattle.il_model.specs.WellFormed.{IsFine, IsWellFormed}
@@ -12,8 +12,9 @@ use Rattle.rv_isa.specs.Word.{word_of}
 use Rattle.interaction.specs.declared.history.Event.{Event}
 use Rattle.interaction.specs.Thread.{Turn}
 use Rattle.interaction.specs.History.{Begins, NeverStuck}
-use Rattle.interaction.specs.Starts.{begun_in}
-use Rattle.interaction.specs.Safety.{Language, Safe, SafetyLaws, SafeStart}
+use Rattle.interaction.specs.Process.{Next, Over}
+use Rattle.interaction.specs.Starts.{as_process, begun_by, begun_in}
+use Rattle.interaction.specs.Safety.{FitsBegun, IsKept, Language, Safe, SafetyLaws, SafeStart}
 use Rattle.interaction.specs.Run.{Machine}
 use Rattle.interaction.specs.RunLaws.{RunLaws, ClaimsRight}
 use Rattle.interaction.specs.Simulation as keeps
@@ -22,12 +23,16 @@ use Rattle.interaction.proofs.Starting.{begin-grows}
 use Rattle.interaction.proofs.NeverStuck.{language_begins, never_stuck}
 use Rattle.interaction.proofs.Joining.{Together}
 use Rattle.interaction.proofs.SoundRuns.{kept_is_sound, sound_runs_well}
-use Rattle.run_top.specs.declared.events.Request.{Request}
-use Rattle.run_top.specs.declared.events.Request.TheVariants.{Print, Finish}
-use Rattle.run_top.specs.declared.events.Form.TheVariants.{Number}
-use Rattle.run_top.specs.Replies.{Reply, Improper, is_improper}
-use Rattle.run_top.specs.Store.{Store, store, is_live, told}
-use Rattle.run_top.specs.Process.{Frame, act_of, meaning, naming, main, starts, begin}
+use Rattle.store_object.specs.declared.request.Request.{Request}
+use Rattle.store_object.specs.declared.request.Request.TheVariants.{Print, Finish}
+use Rattle.store_object.specs.declared.request.Form.TheVariants.{Number}
+use Rattle.store_object.specs.declared.reply.Reply.{Reply}
+use Rattle.store_object.specs.declared.reply.Reply.TheVariants as says
+use Rattle.store_object.specs.Answer.{is_named, served, answer}
+use Rattle.store_object.specs.Replay.{store, is_halted, is_improper}
+use Rattle.store_object.specs.Store.{Store, is_live}
+use Rattle.store_object.proofs.StoreLaws.{asks_alive, lives_below, lives_other, starts_next, starts_none}
+use Rattle.run_top.specs.Process.{Frame, Doing, act_of, meaning, naming, main, begun, starts, begin}
 use Rattle.run_top.specs.Machine.{Thread, Wish, want, start}
 use Rattle.run_top.specs.Code.{instrs_of, image_of, frame_words}
 use Rattle.run_top.specs.Run.{machine_of, numbers, image_run}
@@ -44,10 +49,25 @@ has_all {A} (i ∷ is) front =
     let rest = subst (λ l. HasAt l (length (front ++ i ∷ [])) is) (append_assoc front (i ∷ []) is) (has_all is (front ++ i ∷ [])) in
     (here, subst (λ m. HasAt (front ++ i ∷ is) m is) n rest)
 
--- no history starts another thread
-none_begun : {A : Type 0} (h : List (Event Request Reply)) (u : ℕ) → begun_in {A = A} starts h u ≡ None
-none_begun [] u = refl
-none_begun (e ∷ h) u = none_begun h u
+-- only the reply Thread starts a thread
+begun_thread : {A : Type 0} (place : A) (y : Reply) (b : ℕ × A) → begun place y ≡ Some b → y ≡ says.Thread b.0
+begun_thread place (says.Object object) b e = absurd (cc e)
+begun_thread place (says.Kind kind) b e = absurd (cc e)
+begun_thread place (says.Word word) b e = absurd (cc e)
+begun_thread place (says.Thread thread) b e = ap (λ o. says.Thread (number_of o)) e
+  where
+    number_of : {A : Type 0} → Option (ℕ × A) → ℕ
+    number_of None = 0
+    number_of (Some b) = b.0
+begun_thread place (says.Ended has_finished) b e = absurd (cc e)
+begun_thread place says.Unknown b e = absurd (cc e)
+begun_thread place says.Done b e = absurd (cc e)
+begun_thread place (says.Stopped why) b e = absurd (cc e)
+begun_thread place says.Halted b e = absurd (cc e)
+begun_thread place says.Improper b e = absurd (cc e)
+
+begun_no_thread : {A : Type 0} (place : A) (y : Reply) → begun place y ≡ None → (n : ℕ) → y ≡ says.Thread n → ⊥
+begun_no_thread place y e n is = let some : begun place y ≡ Some (n, place) = ap (begun place) is in absurd (cc (some, e))
 
 -- this machine touches no word of the context
 pub claims_none : (image context : List ℕ) (t : Thread) → ClaimsRight context (want image t)
@@ -69,16 +89,18 @@ Held context t = Unit {0}
 abbrev pub Known : List ℕ → List (Turn Request Reply) → ℕ → Type 0
 Known context turns i = ⊥
 
-set_other : (xs : List Bool) (t u : ℕ) (v : Bool) → (t ≡ u → ⊥) → slice_get (slice_set xs t v) u ≡ slice_get xs u
-set_other [] t u v ne = refl
-set_other (x ∷ xs) zero zero v ne = absurd (ne refl)
-set_other (x ∷ xs) zero (suc u) v ne = refl
-set_other (x ∷ xs) (suc t) zero v ne = refl
-set_other (x ∷ xs) (suc t) (suc u) v ne = set_other xs t u v (λ same. ne (ap suc same))
+-- a fact on how a live thread's request is answered, where all that it names is there
+on_live : (P : Reply × Store → Type 0) (y : Store) (u : ℕ) (r : Request) → is_live y u ≡ true → is_named y r ≡ true → P (says.Halted, y) → P (served y u r) → P (answer y u r)
+on_live P y u r live named halted given = by_two y.is_over (is_live y u && is_named y r) (rw (live, named) refl)
+  where
+    by_two : (is_over test : Bool) → test ≡ true → P (if is_over then (says.Halted, y) else (if test then served y u r else (says.Improper, y)))
+    by_two true test e = halted
+    by_two false true e = given
+    by_two false false e = absurd (cc e)
 
 pub machine_laws : (image : List ℕ) (words : ℕ) → RunLaws (machine_of image words) Fit Held Known
 machine_laws image words = record {
-  begin_grows = λ d r u s e. begin-grows (start words) starts d r u s e;
+  begin_grows = λ d r u s e. begin-grows (start words) (starts (start words)) d r u s e;
   begin_holds = λ w h u s f e. tt;
   later_holds = λ w v s g h. tt;
   turn_fits = λ w v s t turn f h g m wr. (tt, tt);
@@ -98,16 +120,19 @@ module _ (ops : List FirstOp) where
     object = store;
     naming = naming;
     meaning = meaning ops;
-    starts = starts;
+    starts = starts main;
     Typed = λ x. Unit {0};
     Grows = λ x y. Unit {0};
     Fits = λ x frame. Fits ops frame;
   }
 
-  -- a live thread's request is answered
-  proper : (y : Store) (u : ℕ) (r : Request) → is_live y u ≡ true → store.is_improper (store.reply y u r) ≡ false
-  proper y u (Print form word) live = rw live refl
-  proper y u Finish live = rw live refl
+  -- a live thread's request is answered, or all has ended; what comes after it is safe
+  safe_ask : (u : ℕ) (y : Store) (r : Request) (left : Doing) → is_live y u ≡ true → is_named y r ≡ true → begun main (served y u r).0 ≡ None → is_improper (served y u r).0 ≡ false → ((left ≡ Over) ⊎ (is_live (served y u r).1 u ≡ true)) → ((x : Store) → Safe language u x left)
+      → (is_improper (answer y u r).0 ≡ false) × (is_halted (answer y u r).0 ≡ false → IsKept language u (answer y u r).1 r (answer y u r).0 left (Safe language u (answer y u r).1 left))
+  safe_ask u y r left live named none proper lives safe =
+      on_live (λ (p : Reply × Store). (is_improper p.0 ≡ false) × (is_halted p.0 ≡ false → IsKept language u p.1 r p.0 left (Safe language u p.1 left))) y u r live named
+      (refl, λ halted. absurd (cc halted))
+      (proper, λ halted. (tt, subst (FitsBegun language (served y u r).1) (sym none) tt, lives, safe (served y u r).1))
 
   safe_act : (u : ℕ) (x : Store) (place : ℕ) (stack : List ℕ) (rest : List FirstOp) → HasAt ops place rest → IsFine (length stack) rest → Safe language u x (act_of (slice_get ops place) place stack)
   safe_act u x place stack [] has fine = absurd fine
@@ -122,33 +147,16 @@ module _ (ops : List FirstOp) where
   safe_act u x place [] (PrintOp ∷ rest) has fine = absurd (omega (arith, fine.0))
   safe_act u x place (a ∷ stack) (PrintOp ∷ rest) has fine =
       let d : length (a ∷ stack) - 1 ≡ length stack = omega arith in
-      rw has.0 (λ y g typed live. (proper y u (Print Number a) live, λ halted. (tt, tt, inr live, record { rest = rest; stand = has.1; fine = subst (λ e. IsFine e rest) d fine.1 })))
-  safe_act u x place [] (Ret ∷ []) has fine = rw has.0 (λ y g typed live. (proper y u Finish live, λ halted. (tt, tt, inl refl, tt)))
+      rw has.0 (λ y g typed live. safe_ask u y (Print Number a) (Next (record { place = place + 1; stack = stack })) live refl refl refl (inr live) (λ x. record { rest = rest; stand = has.1; fine = subst (λ e. IsFine e rest) d fine.1 }))
+  safe_act u x place [] (Ret ∷ []) has fine = rw has.0 (λ y g typed live. safe_ask u y Finish Over live refl refl refl (inl refl) (λ x. tt))
   safe_act u x place (a ∷ stack) (Ret ∷ []) has fine = absurd (omega (arith, fine))
   safe_act u x place stack (Ret ∷ op ∷ rest) has fine = absurd fine
 
-  -- who is answered lives
-  asks_alive : (x : Store) (t : ℕ) (r : Request) → store.is_improper (store.reply x t r) ≡ false → is_live x t ≡ true
-  asks_alive x t r e = by_test (is_live x t) e
-    where
-      by_test : (b : Bool) → is_improper (if b then told r else Improper) ≡ false → b ≡ true
-      by_test true e' = refl
-      by_test false e' = cc e'
+  begins_none : (x : Store) (t : ℕ) (r : Request) → starts main r (answer x t r).0 ≡ None → length (answer x t r).1.finished ≡ length x.finished
+  begins_none x t r none = starts_none x t r (begun_no_thread main (answer x t r).0 none)
 
-  lives_below : (x : Store) (u : ℕ) → is_live x u ≡ true → u < length x.finished
-  lives_below x u e = by_place (slice_get x.finished u) refl e
-    where
-      by_place : (o : Option Bool) → slice_get x.finished u ≡ o → unwrap_or (option_map not o) false ≡ true → u < length x.finished
-      by_place None is e' = absurd (cc e')
-      by_place (Some b) is e' = slice_get_within x.finished u b is
-
-  lives_other : (x : Store) (t u : ℕ) (r : Request) → (t == u) ≡ false → is_live x u ≡ true → is_live (store.after x t r) u ≡ true
-  lives_other x t u (Print form word) ne live = live
-  lives_other x t u Finish ne live = ap (λ o. unwrap_or (option_map not o) false) (set_other x.finished t u true (λ same. cc (eq-eqb t u same, ne))) ∙ live
-
-  same_threads : (x : Store) (t : ℕ) (r : Request) → store.threads (store.after x t r) ≡ store.threads x
-  same_threads x t (Print form word) = refl
-  same_threads x t Finish = length-set x.finished t true
+  begins_one : (x : Store) (t : ℕ) (r : Request) (b : ℕ × Frame) → starts main r (answer x t r).0 ≡ Some b → (b.0 ≡ length x.finished) × (length (answer x t r).1.finished ≡ suc (length x.finished))
+  begins_one x t r b is = let start = starts_next x t r b.0 (begun_thread main (answer x t r).0 b is) in (start.number, start.count)
 
   pub laws : SafetyLaws language
   laws = record {
@@ -159,10 +167,10 @@ module _ (ops : List FirstOp) where
     steps = λ u x f h. safe_act u x f.place f.stack h.rest h.stand h.fine;
     lives_below = lives_below;
     lives_other = lives_other;
-    asks_alive = λ x t r halted improper. asks_alive x t r improper;
-    begins_none = λ x t r none. same_threads x t r;
-    begins_one = λ x t r b live halted is. absurd (cc is);
-    begun_lives = λ x t r b typed live halted is. absurd (cc is);
+    asks_alive = asks_alive;
+    begins_none = begins_none;
+    begins_one = λ x t r b live halted is. begins_one x t r b is;
+    begun_lives = λ x t r b typed live halted is. (starts_next x t r b.0 (begun_thread main (answer x t r).0 b is)).lives;
   }
 
 module _ (ops : List FirstOp) (well : IsWellFormed ops) where
@@ -190,9 +198,32 @@ module _ (ops : List FirstOp) (well : IsWellFormed ops) where
     rests = record { base = refl; registers = refl; stands = tt };
   }
 
+  -- a reply that starts a thread, before those that begin so
+  begin_more : (context : List ℕ) (y : Reply) (u : ℕ) (op : Option Frame) (os : Option Thread) → Together (sides ops image context) (At ops image) store begin (as_process op) os
+      → Together (sides ops image context) (At ops image) store begin (as_process (begun_by u (begun main y) op)) (begun_by u (begun (start words) y) os)
+  begin_more context (says.Object object) u op os later = later
+  begin_more context (says.Kind kind) u op os later = later
+  begin_more context (says.Word word) u op os later = later
+  begin_more context (says.Thread thread) u op os later = by_number (thread == u)
+    where
+      by_number : (test : Bool) → Together (sides ops image context) (At ops image) store begin (as_process (if test then Some main else op)) (if test then Some (start words) else os)
+      by_number true = keeps.arrives (before starts_before)
+      by_number false = later
+  begin_more context (says.Ended has_finished) u op os later = later
+  begin_more context says.Unknown u op os later = later
+  begin_more context says.Done u op os later = later
+  begin_more context (says.Stopped why) u op os later = later
+  begin_more context says.Halted u op os later = later
+  begin_more context says.Improper u op os later = later
+
+  -- every thread begins so
+  all_begin : (context : List ℕ) (h : List (Event Request Reply)) (u : ℕ) → Together (sides ops image context) (At ops image) store begin (as_process (begun_in (starts main) h u)) (begun_in (starts (start words)) h u)
+  all_begin context [] u = tt
+  all_begin context (e ∷ h) u = begin_more context e.reply u (begun_in (starts main) h u) (begun_in (starts (start words)) h u) (all_begin context h u)
+
   pub together : (context : List ℕ) (h : List (Event Request Reply)) (u : ℕ) → Together (sides ops image context) (At ops image) store begin (begin h u) (machine.begin h u)
   together context h zero = keeps.arrives (before starts_before)
-  together context h (suc u) = rw (none_begun {A = Frame} h (suc u), none_begun {A = Thread} h (suc u)) tt
+  together context h (suc u) = all_begin context h (suc u)
 
   pub begins_so : Begins store begin
   begins_so = language_begins (language ops) (laws ops) main safe_start

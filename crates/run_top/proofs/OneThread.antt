@@ -5,16 +5,17 @@ use Rattle.interaction.specs.declared.history.Event.{Event}
 use Rattle.interaction.specs.declared.turn.What.{What}
 use Rattle.interaction.specs.Thread.{Go, Ask, Fault, Over, Turn, Did, Asked}
 use Rattle.interaction.specs.Run.{Machine, Taken, World, Outcome, Done as AllDone, TurnsUsed, StuckAt, Idle, chosen, first_of, with_value, chosen_turn, thread_turn, turned, onward, run_from}
-use Rattle.run_top.specs.declared.events.Request.{Request}
-use Rattle.run_top.specs.declared.events.Request.TheVariants.{Print, Finish}
-use Rattle.run_top.specs.Replies.{Reply, Done}
-use Rattle.run_top.specs.Store.{Store, stays_live}
-use Rattle.run_top.specs.Machine.{Thread, want, start}
+use Rattle.store_object.specs.declared.request.Request.{Request}
+use Rattle.store_object.specs.declared.reply.Reply.{Reply}
+use Rattle.store_object.specs.declared.reply.Reply.TheVariants.{Done}
+use Rattle.store_object.specs.Store.{Store, opening}
+use Rattle.run_top.specs.Executed.{IsFirst, prints, leaves}
+use Rattle.run_top.specs.Machine.{Thread, want, start, stays_live}
 use Rattle.run_top.specs.Run.{machine_of}
 
 -- the store of thread 0 alone
 abbrev pub store_of : Bool → Store
-store_of live = record { finished = not live ∷ [] }
+store_of live = record opening { finished = not live ∷ [] }
 
 abbrev pub Moves : Type 0
 Moves = ℕ → Option Thread
@@ -54,14 +55,14 @@ module _ (image : List ℕ) (words : ℕ) where
         let x = lone moved true history turns in
         its_turn ∙ ap (λ w. onward x (turned m x 0 t w) (run_from m ks)) is
 
-    asked_as : (request : Request) (next : Reply → Thread) → onward (lone moved true history turns) (turned m (lone moved true history turns) 0 t (Ask request next)) (run_from m ks) ≡ from ks (lone (with_value moved 0 (Some (next Done))) (stays_live request) (history ++ event request ∷ []) (turns ++ taken (Asked (record { request = request; reply = Done })) ∷ []))
-    asked_as (Print form word) next = refl
-    asked_as Finish next = refl
+    asked_as : (request : Request) (next : Reply → Thread) → IsFirst request → onward (lone moved true history turns) (turned m (lone moved true history turns) 0 t (Ask request next)) (run_from m ks) ≡ from ks (lone (with_value moved 0 (Some (next Done))) (stays_live request) (history ++ event request ∷ []) (turns ++ taken (Asked (record { request = request; reply = Done })) ∷ []))
+    asked_as _ next (prints word) = refl
+    asked_as _ next leaves = refl
 
-    pub asked : (request : Request) (next : Reply → Thread) → want image t ≡ Ask request next → from (k ∷ ks) (lone moved true history turns) ≡ from ks (lone (with_value moved 0 (Some (next Done))) (stays_live request) (history ++ event request ∷ []) (turns ++ taken (Asked (record { request = request; reply = Done })) ∷ []))
-    asked request next is =
+    pub asked : (request : Request) (next : Reply → Thread) → IsFirst request → want image t ≡ Ask request next → from (k ∷ ks) (lone moved true history turns) ≡ from ks (lone (with_value moved 0 (Some (next Done))) (stays_live request) (history ++ event request ∷ []) (turns ++ taken (Asked (record { request = request; reply = Done })) ∷ []))
+    asked request next first is =
         let x = lone moved true history turns in
-        its_turn ∙ ap (λ w. onward x (turned m x 0 t w) (run_from m ks)) is ∙ asked_as request next
+        its_turn ∙ ap (λ w. onward x (turned m x 0 t w) (run_from m ks)) is ∙ asked_as request next first
 
     pub faulted : want image t ≡ Fault → from (k ∷ ks) (lone moved true history turns) ≡ record { world = lone moved true history turns; ending = StuckAt 0 t }
     faulted is =

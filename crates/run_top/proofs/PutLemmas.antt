@@ -1,6 +1,8 @@
 -- Lemmas on one write after another.
 use Rattle.std.proofs.Common.{◌≡◌, ℕ, List, [], ◌++◌, Option, Result, Ok, Err, refl, sym, ap, ◌∙◌, append_assoc, arith, ◌≤◌, length, take, drop, get_or, ◌<◌, suc, drop-cons}
-use Rattle.run_top.specs.declared.events.Event.{Event}
+use Rattle.interaction.specs.declared.history.Event.{Event}
+use Rattle.store_object.specs.declared.reply.Reply.{Reply}
+use Rattle.store_object.specs.declared.request.Request.{Request}
 use Rattle.run_top.specs.History.{line_of, output}
 use Rattle.std.proofs.lemmas.Grind.{flat_map-append}
 use Rattle.std.proofs.lemmas.List.{take-append-drop}
@@ -47,8 +49,8 @@ module _ {T : Type 0} where
   done a b c f g h u x y grew wrote = record { grew = Appends-trans a b c x y grew.grew wrote.ok; later = omega (arith, grew.later, wrote.cause.later) }
 
 -- the output up to a line, the line, and the rest
-pub output_at : (h : List Event) (i : ℕ) (d : Event) → i < length h → output h ≡ (output (take i h) ++ line_of (get_or h i d).request) ++ output (drop (suc i) h)
+pub output_at : (h : List (Event Request Reply)) (i : ℕ) (d : Event Request Reply) → i < length h → output h ≡ (output (take i h) ++ line_of (get_or h i d).request) ++ output (drop (suc i) h)
 output_at h i d l =
-    ap output (sym (take-append-drop i h)) ∙ flat_map-append (λ (e : Event). line_of e.request) (take i h) (drop i h)
+    ap output (sym (take-append-drop i h)) ∙ flat_map-append (λ (e : Event Request Reply). line_of e.request) (take i h) (drop i h)
     ∙ ap (λ r. output (take i h) ++ output r) (drop-cons h i d l)
     ∙ sym (append_assoc (output (take i h)) (line_of (get_or h i d).request) (output (drop (suc i) h)))

@@ -1,12 +1,17 @@
 -- Lemmas on the text of a command's file, which is one text where it is told what is held.
-use Rattle.std.proofs.Common.{◌≡◌, ◌∙◌, ℕ, List, [], Option, Some, None, get_or, inl, inr, sym, ap, subst}
+use Rattle.std.proofs.Common.{◌≡◌, ◌∙◌, ℕ, List, [], Option, Some, None, get_or, inl, inr, refl, sym, ap, subst}
 use Rattle.std.specs.Prelude.{◌⊎◌}
 use Rattle.mn_outside.specs.Causes.{Held, Holds}
-use Rattle.run_top.specs.declared.events.Ending.{Ending}
-use Rattle.run_top.specs.declared.events.Ending.TheVariants.{Done, Turns}
+use Rattle.interaction.specs.declared.history.Event.{Event}
+use Rattle.store_object.specs.declared.ending.Ending.{Ending}
+use Rattle.store_object.specs.declared.ending.Ending.TheVariants as kept
+use Rattle.store_object.specs.declared.reply.Reply.{Reply}
+use Rattle.store_object.specs.declared.request.Request.{Request}
+use Rattle.run_top.specs.declared.record.Turn.{Turn}
 use Rattle.run_top.specs.declared.record.RunRecord.{RunRecord}
 use Rattle.run_top.specs.FirstForm.{IsFirstForm}
 use Rattle.run_top.specs.Command.{IsCommand}
+use Rattle.run_top.specs.Executed.{EndsSo}
 use Rattle.run_top.specs.Headline.{IsRefused, IsRunOf, IsRunStatus, IsUncut, RefusesText, RunsText}
 use Rattle.run_top.specs.Written.{Answers, status_of}
 
@@ -30,21 +35,30 @@ run_refuses words (Some held) status name limit r command run =
     let same = same_text words held name other run.text.0 text limit n command also run.text.1 is in
     absurd (refused r.program.code.items (subst (λ t. IsFirstForm t r.program.code.items) same run.text.2))
 
-run_status : (ending : Ending) (status : ℕ) → status ≡ status_of ending → IsRunStatus status
-run_status Done status is = inl is
-run_status Turns status is = inr is
+-- the status of an ending that comes
+pub run_status : (limit : ℕ) (turns : List Turn) (history : List (Event Request Reply)) (ending : Ending) (status : ℕ) → EndsSo limit turns history ending → status ≡ status_of ending → IsRunStatus status
+run_status limit turns history kept.Done status ends is = inl is
+run_status limit turns history (kept.Uncaught kind) status ends is = absurd ends
+run_status limit turns history kept.Turns status ends is = inr is
+run_status limit turns history (kept.Stopped why) status ends is = absurd ends
+run_status limit turns history (kept.Full region key) status ends is = absurd ends
+run_status limit turns history (kept.Fault fault) status ends is = absurd ends
 
-uncut_status : (ending : Ending) (status : ℕ) → (status ≡ status_of ending) ⊎ ((status ≡ 9) ⊎ (status ≡ 10)) → IsUncut status → IsRunStatus status
-uncut_status ending status (inl is) uncut = run_status ending status is
-uncut_status ending status (inr (inl is)) uncut = absurd (uncut.put is)
-uncut_status ending status (inr (inr is)) uncut = absurd (uncut.room is)
+uncut_status : (status : ℕ) (its : ℕ) → IsRunStatus its → (status ≡ its) ⊎ ((status ≡ 9) ⊎ (status ≡ 10)) → IsUncut status → IsRunStatus status
+uncut_status status its run (inl is) uncut = subst IsRunStatus (sym is) run
+uncut_status status its run (inr (inl is)) uncut = absurd (uncut.put is)
+uncut_status status its run (inr (inr is)) uncut = absurd (uncut.room is)
+
+-- the status of a run's ending is a run's
+pub its_status : (held : Option Held) (name : List ℕ) (limit : ℕ) (r : RunRecord) → IsRunOf held name limit r → IsRunStatus (status_of r.ending)
+its_status held name limit r run = run_status limit r.turns.items r.history.items r.ending (status_of r.ending) run.ends refl
 
 -- a run that is shown has a run's status
-pub run_runs : (words : List (List ℕ)) (held : Option Held) (before now : Option (List ℕ)) (f g : ℕ) (bytes : List ℕ) (ending : Ending) (status : ℕ)
-    → Answers before now f g bytes (status_of ending) status → RunsText words held status
-run_runs words None before now f g bytes ending status answers = tt
-run_runs words (Some held) before now f g bytes ending status answers =
-    λ name limit text ops command is form readable uncut. uncut_status ending status answers.either uncut
+pub run_runs : (words : List (List ℕ)) (held : Option Held) (before now : Option (List ℕ)) (f g : ℕ) (bytes : List ℕ) (status its : ℕ) → IsRunStatus its
+    → Answers before now f g bytes its status → RunsText words held status
+run_runs words None before now f g bytes status its run answers = tt
+run_runs words (Some held) before now f g bytes status its run answers =
+    λ name limit text ops command is form readable uncut. uncut_status status its run answers.either uncut
 
 -- where the text is refused, it is no program's
 pub refused_runs : (words : List (List ℕ)) (held : Option Held) (status : ℕ) (name : List ℕ) (limit : ℕ) (text : List ℕ)

@@ -1,32 +1,27 @@
 -- What kinds of turns the machine has, whatever the image.
-use Rattle.std.proofs.Common.{◌≡◌, ℕ, ◌+◌, ◌*◌, List, Bool, true, false, Option, Some, None, refl, arith}
-use Rattle.std.specs.Prelude.{◌==◌, if◌then◌else◌, slice_get}
+use Rattle.std.proofs.Common.{◌≡◌, ℕ, ◌+◌, ◌*◌, List, Bool, true, false, Option, Some, None, refl, subst, arith}
+use Rattle.std.specs.Prelude.{◌==◌, if◌then◌else◌}
 use Rattle.rv_isa.specs.declared.instr.Instr.{Instr}
 use Rattle.rv_isa.specs.Reading.{decode_of}
 use Rattle.interaction.specs.declared.turn.What.{What}
 use Rattle.interaction.specs.declared.turn.What.TheVariants as noted
 use Rattle.interaction.specs.Thread.{Go, Ask, Fault, Over}
-use Rattle.run_top.specs.declared.events.Form.{Form}
-use Rattle.run_top.specs.declared.events.Form.TheVariants.{Number}
-use Rattle.run_top.specs.declared.events.Request.TheVariants.{Print, Finish}
+use Rattle.store_object.specs.declared.request.Form.TheVariants.{Number}
+use Rattle.store_object.specs.declared.request.Request.{Request}
+use Rattle.store_object.specs.declared.request.Request.TheVariants.{Print, Finish}
+use Rattle.store_object.specs.declared.reply.Reply.{Reply}
 use Rattle.run_top.specs.declared.machine.Mode.{Mode}
 use Rattle.run_top.specs.declared.machine.Mode.TheVariants.{Code, Service, Leaving, Gone}
 use Rattle.run_top.specs.declared.machine.Effect.{Effect}
 use Rattle.run_top.specs.declared.machine.Effect.TheVariants.{Sets, Loads, Stores, Calls, Breaks}
-use Rattle.run_top.specs.Replies.{Reply}
+use Rattle.run_top.specs.Executed.{IsExecuted, IsFirst}
+use Rattle.run_top.specs.Executed as first
 use Rattle.run_top.specs.Machine.{Thread, Wish, register, with_mode, frame_place, code_place, effect_of, loaded, stored, performed, decoded, fetched, fetch, want_in, want}
-
--- an executed word is a code word of the image, noted with its address
-abbrev pub HasExecuted : List ℕ → What → Type 0
-HasExecuted image (noted.Instr pc word) = (i : ℕ) × (pc ≡ 65536 + 4 * i) × (slice_get image i ≡ Some word)
-HasExecuted image noted.Action = Unit {0}
-HasExecuted image (noted.Load i) = ⊥
-HasExecuted image (noted.Claim i) = ⊥
 
 -- the kinds of a turn of a thread
 pub data Kind (image : List ℕ) (t : Thread) : Wish → Type 0 where
-  goes : {what : What} {next : Thread} → HasExecuted image what → (next.mode ≡ Gone → ⊥) → Kind image t (Go what next)
-  prints : {form : Form} {word : ℕ} {next : Reply → Thread} → ((y : Reply) → (next y).mode ≡ Gone → ⊥) → Kind image t (Ask (Print form word) next)
+  goes : {what : What} {next : Thread} → IsExecuted image what → (next.mode ≡ Gone → ⊥) → Kind image t (Go what next)
+  prints : {word : ℕ} {next : Reply → Thread} → ((y : Reply) → (next y).mode ≡ Gone → ⊥) → Kind image t (Ask (Print Number word) next)
   leaves : {next : Reply → Thread} → Kind image t (Ask Finish next)
   faults : Kind image t Fault
   over : t.mode ≡ Gone → Kind image t Over
@@ -34,7 +29,7 @@ pub data Kind (image : List ℕ) (t : Thread) : Wish → Type 0 where
 placed : (pc i : ℕ) → code_place pc ≡ Some i → pc ≡ 65536 + 4 * i
 placed pc i h = grind arith
 
-module _ (image : List ℕ) (t : Thread) (in_code : t.mode ≡ Code) (what : What) (executed : HasExecuted image what) where
+module _ (image : List ℕ) (t : Thread) (in_code : t.mode ≡ Code) (what : What) (executed : IsExecuted image what) where
   stays : t.mode ≡ Gone → ⊥
   stays h = cc
 
@@ -54,7 +49,7 @@ module _ (image : List ℕ) (t : Thread) (in_code : t.mode ≡ Code) (what : Wha
   performs_so Breaks = faults
 
 module _ (image : List ℕ) (t : Thread) (in_code : t.mode ≡ Code) where
-  decodes_so : (word : ℕ) (o : Option Instr) → HasExecuted image (noted.Instr t.pc word) → Kind image t (decoded word t o)
+  decodes_so : (word : ℕ) (o : Option Instr) → IsExecuted image (noted.Instr t.pc word) → Kind image t (decoded word t o)
   decodes_so word None h = faults
   decodes_so word (Some instr) h = performs_so image t in_code (noted.Instr t.pc word) h (effect_of instr t.x)
 
@@ -78,3 +73,14 @@ kind_in image t Gone e = over e
 -- each turn is of one of these kinds
 pub kind_of : (image : List ℕ) (t : Thread) → Kind image t (want image t)
 kind_of image t = kind_in image t t.mode refl
+
+asks_first : (image : List ℕ) (t : Thread) (w : Wish) (r : Request) (next : Reply → Thread) → Kind image t w → w ≡ Ask r next → IsFirst r
+asks_first image t _ r next (goes e g) is = absurd (cc is)
+asks_first image t _ r next (prints {word = word} g) is = let same : Print Number word ≡ r = cc is in subst IsFirst same (first.prints word)
+asks_first image t _ r next leaves is = let same : Finish ≡ r = cc is in subst IsFirst same first.leaves
+asks_first image t _ r next faults is = absurd (cc is)
+asks_first image t _ r next (over g) is = absurd (cc is)
+
+-- a request is one of the first form
+pub its_request : (image : List ℕ) (t : Thread) (r : Request) (next : Reply → Thread) → want image t ≡ Ask r next → IsFirst r
+its_request image t r next is = asks_first image t (want image t) r next (kind_of image t) is

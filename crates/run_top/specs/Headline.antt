@@ -3,13 +3,13 @@ use Rattle.std.specs.Prelude.{◌≡◌, ◌≢◌, ◌≤◌, ◌+◌, ◌*◌,
 use Rattle.mn_outside.specs.Causes.{Held, Holds, Rose}
 use Rattle.interaction.specs.History.{Legal}
 use Rattle.il_model.specs.declared.first.FirstOp.{FirstOp}
+use Rattle.store_object.specs.Replay.{store}
 use Rattle.run_top.specs.declared.record.RunRecord.{RunRecord}
 use Rattle.run_top.specs.FirstForm.{IsFirstForm}
-use Rattle.run_top.specs.Store.{store}
 use Rattle.run_top.specs.Process.{begin, meaning, naming}
 use Rattle.run_top.specs.Code.{frame_words, image_of}
-use Rattle.run_top.specs.Run.{IsRun, events_of, image_run}
-use Rattle.run_top.specs.Executed.{AllExecuted, EndsSo}
+use Rattle.run_top.specs.Run.{IsRun, image_run}
+use Rattle.run_top.specs.Executed.{AllExecuted, AllFirst, EndsSo}
 use Rattle.run_top.specs.Command.{IsCommand, IsUsage}
 use Rattle.run_top.specs.Written.{usage_line, first_form_line, file_line}
 
@@ -25,7 +25,9 @@ pub record IsRunOf (held : Option Held) (name : List ℕ) (limit : ℕ) (r : Run
   -- turns, history and ending are those of the image's run
   pub run : IsRun (image_run r.image.items (frame_words r.program.code.items) limit) r.turns.items r.history.items r.ending
   -- the program's thread makes exactly these requests when it is given these replies, which the store gives
-  pub legal : Legal store naming (meaning r.program.code.items) begin (events_of r.history.items)
+  pub legal : Legal store naming (meaning r.program.code.items) begin r.history.items
+  -- they are those of this form
+  pub requests : AllFirst r.history.items
   pub executed : AllExecuted r.image.items r.turns.items
   pub ends : EndsSo limit r.turns.items r.history.items r.ending
   pub few : length r.turns.items ≤ 1024 * (length r.program.code.items + 1)

@@ -1,7 +1,5 @@
 pub mod FirstWords
 pub mod Values
-pub mod Replies
-pub mod Store
 pub mod Process
 pub mod Code
 pub mod Machine

@@ -1,19 +1,19 @@
 -- One turn of one thread of the image machine. After the RISC-V unprivileged ISA; the services are this project's own.
-use Rattle.std.specs.Prelude.{ℕ, ◌+◌, ◌-◌, ◌*◌, ◌/◌, ◌%◌, nat_lt, nat_le, ◌==◌, ◌&&◌, if◌then◌else◌, List, ◌∷◌, ◌++◌, length, replicate, Option, Some, None, slice_get, slice_index, slice_set}
+use Rattle.std.specs.Prelude.{ℕ, ◌+◌, ◌-◌, ◌*◌, ◌/◌, ◌%◌, nat_lt, nat_le, ◌==◌, ◌&&◌, if◌then◌else◌, Bool, true, false, List, ◌∷◌, ◌++◌, length, replicate, Option, Some, None, slice_get, slice_index, slice_set}
 use Rattle.rv_isa.specs.declared.instr.Instr.{Instr}
 use Rattle.rv_isa.specs.declared.instr.Instr.TheVariants.{Addi, Addiw, Lui, Ld, Sd, Addw, Ecall}
 use Rattle.rv_isa.specs.Reading.{decode_of}
 use Rattle.interaction.specs.declared.turn.What.{What}
 use Rattle.interaction.specs.declared.turn.What.TheVariants.{Instr as Executed, Action}
 use Rattle.interaction.specs.Thread.{Want, Go, Ask, Fault, Over}
-use Rattle.run_top.specs.declared.events.Form.TheVariants.{Number}
-use Rattle.run_top.specs.declared.events.Request.{Request}
-use Rattle.run_top.specs.declared.events.Request.TheVariants.{Print, Finish}
+use Rattle.store_object.specs.declared.request.Form.TheVariants.{Number}
+use Rattle.store_object.specs.declared.request.Request.{Request}
+use Rattle.store_object.specs.declared.request.Request.TheVariants.{Print, Finish}
+use Rattle.store_object.specs.declared.reply.Reply.{Reply}
 use Rattle.run_top.specs.declared.machine.Mode.{Mode}
 use Rattle.run_top.specs.declared.machine.Mode.TheVariants.{Code, Service, Leaving, Gone}
 use Rattle.run_top.specs.declared.machine.Effect.{Effect}
 use Rattle.run_top.specs.declared.machine.Effect.TheVariants.{Sets, Loads, Stores, Calls, Breaks}
-use Rattle.run_top.specs.Replies.{Reply}
 use Rattle.run_top.specs.Values.{sign_extended}
 
 -- a thread: its registers, the words of its one frame, and what goes on with its next turn
@@ -109,6 +109,11 @@ want_in Code image t = fetched t (fetch image (code_place t.pc))
 want_in Service image t = served t
 want_in Leaving image t = Ask Finish (λ reply. with_mode t Gone)
 want_in Gone image t = Over
+
+-- whether a live thread is live after its request
+abbrev pub stays_live : Request → Bool
+stays_live Finish = false
+stays_live request = true
 
 -- the next turn of a thread
 abbrev pub want : List ℕ → Thread → Wish

@@ -5,10 +5,11 @@ use Rattle.il_model.specs.declared.first.FirstOp.TheVariants.{Push, Add, Print a
 use Rattle.interaction.specs.declared.history.Event.{Event}
 use Rattle.interaction.specs.Process.{Act, Next, Ask, Over, Stuck, Naming}
 use Rattle.interaction.specs.Starts.{begin_of, as_process}
-use Rattle.run_top.specs.declared.events.Form.TheVariants.{Number}
-use Rattle.run_top.specs.declared.events.Request.{Request}
-use Rattle.run_top.specs.declared.events.Request.TheVariants.{Print, Finish}
-use Rattle.run_top.specs.Replies.{Reply}
+use Rattle.store_object.specs.declared.request.Form.TheVariants.{Number}
+use Rattle.store_object.specs.declared.request.Request.{Request}
+use Rattle.store_object.specs.declared.request.Request.TheVariants.{Print, Finish}
+use Rattle.store_object.specs.declared.reply.Reply.{Reply}
+use Rattle.store_object.specs.declared.reply.Reply.TheVariants as says
 use Rattle.run_top.specs.Values.{int32_word, int32_sum}
 
 -- where a thread is: an instruction, counted from 0, and the stack, its top first
@@ -43,10 +44,23 @@ naming = record { value_of = λ mention. None; tree_at = λ number. None }
 abbrev pub main : Frame
 main = record { place = 0; stack = [] }
 
--- no request of this stage starts a thread
-abbrev pub starts : {A : Type 0} → Request → Reply → Option (ℕ × A)
-starts request reply = None
+-- the thread that a reply starts, in this place
+abbrev pub begun : {A : Type 0} → A → Reply → Option (ℕ × A)
+begun place (says.Object object) = None
+begun place (says.Kind kind) = None
+begun place (says.Word word) = None
+begun place (says.Thread thread) = Some (thread, place)
+begun place (says.Ended has_finished) = None
+begun place says.Unknown = None
+begun place says.Done = None
+begun place (says.Stopped why) = None
+begun place says.Halted = None
+begun place says.Improper = None
 
--- where a history begins a thread: thread 0 in Main, and no other
+-- the thread that a request with its reply starts; the reply alone tells
+abbrev pub starts : {A : Type 0} → A → Request → Reply → Option (ℕ × A)
+starts place request reply = begun place reply
+
+-- Where a history begins a thread: thread 0 in Main. Another one would begin there too; no program of this form starts one.
 abbrev pub begin : List (Event Request Reply) → ℕ → Option Doing
-begin history thread = as_process (begin_of main starts history thread)
+begin history thread = as_process (begin_of main (starts main) history thread)

@@ -1,24 +1,22 @@
 -- The run of an image, as an instance: its machine, the numbers that a seed draws, and what the code keeps of it.
 use Rattle.std.specs.Prelude.{◌≡◌, ℕ, zero, suc, ◌+◌, ◌*◌, ◌/◌, ◌%◌, ◌^◌, List, [], ◌∷◌, map}
 use Rattle.interaction.specs.declared.history.Event.{Event}
-use Rattle.interaction.specs.declared.turn.What.{What as Noted}
 use Rattle.interaction.specs.Thread.{what_of}
 use Rattle.interaction.specs.Starts.{begin_of}
 use Rattle.interaction.specs.Run.{Machine, Taken, Outcome, Ending, Done as AllDone, TurnsUsed, StuckAt, FullAt, Idle, run}
-use Rattle.run_top.specs.declared.events.Request.{Request}
-use Rattle.run_top.specs.declared.events.Event.{Event as KeptEvent}
-use Rattle.run_top.specs.declared.events.Turn.{Turn as KeptTurn}
-use Rattle.run_top.specs.declared.events.Ending.{Ending as KeptEnding}
-use Rattle.run_top.specs.declared.events.Ending.TheVariants.{Done, Turns}
-use Rattle.run_top.specs.Replies.{Reply, reply_of}
-use Rattle.run_top.specs.Store.{Store, store}
+use Rattle.store_object.specs.declared.ending.Ending.{Ending as KeptEnding}
+use Rattle.store_object.specs.declared.ending.Ending.TheVariants as kept
+use Rattle.store_object.specs.declared.reply.Reply.{Reply}
+use Rattle.store_object.specs.declared.request.Request.{Request}
+use Rattle.store_object.specs.Replay.{store}
+use Rattle.store_object.specs.Store.{Store}
+use Rattle.run_top.specs.declared.record.Turn.{Turn}
 use Rattle.run_top.specs.Process.{starts}
 use Rattle.run_top.specs.Machine.{Thread, want, start}
-use Rattle.run_top.specs.Gives.{noted_of}
 
 -- the image, and Main's frame of so many words
 abbrev pub machine_of : List ℕ → ℕ → Machine Request Reply Thread Store
-machine_of image words = record { object = store; want = want image; begin = begin_of (start words) starts }
+machine_of image words = record { object = store; want = want image; begin = begin_of (start words) (starts (start words)) }
 
 -- the numbers that are drawn from a seed, one before each turn
 abbrev pub next_seed : ℕ → ℕ
@@ -32,27 +30,18 @@ numbers s (suc n) = next_seed s / 2 ^ 33 ∷ numbers (next_seed s) n
 abbrev pub image_run : List ℕ → ℕ → ℕ → Outcome Request Reply Thread Store
 image_run image words limit = run (machine_of image words) (numbers 0 limit) []
 
--- a turn as it is noted
-pub record Note : Type 0 where
-  pub thread : ℕ
-  pub what : Noted
+-- the turns as they are noted
+abbrev pub notes_of : List (Taken Request Reply) → List Turn
+notes_of turns = map (λ t. record { thread = t.thread; what = what_of t.turn }) turns
 
-abbrev pub notes_taken : List (Taken Request Reply) → List Note
-notes_taken turns = map (λ t. record { thread = t.thread; what = what_of t.turn }) turns
-
-abbrev pub notes_kept : List KeptTurn → List Note
-notes_kept turns = map (λ t. record { thread = t.thread; what = noted_of t.what }) turns
-
--- the kept history as the definitions see it
-abbrev pub event_of : KeptEvent → Event Request Reply
-event_of e = record { thread = e.thread; request = e.request; reply = reply_of e.reply }
-
-abbrev pub events_of : List KeptEvent → List (Event Request Reply)
-events_of history = map event_of history
-
-abbrev pub ending_of : KeptEnding → Ending Thread
-ending_of Done = AllDone
-ending_of Turns = TurnsUsed
+-- the ending that is kept is the run's; a run of this form has no other than these two
+abbrev pub IsEnding : KeptEnding → Ending Thread → Type 0
+IsEnding kept.Done ending = ending ≡ AllDone
+IsEnding (kept.Uncaught kind) ending = ⊥
+IsEnding kept.Turns ending = ending ≡ TurnsUsed
+IsEnding (kept.Stopped why) ending = ⊥
+IsEnding (kept.Full region key) ending = ⊥
+IsEnding (kept.Fault fault) ending = ⊥
 
 -- the run ends where no thread lives or the turns are used up, and not for want of a turn
 abbrev pub IsRegular : Ending Thread → Type 0
@@ -63,7 +52,7 @@ IsRegular (FullAt thread t) = ⊥
 IsRegular (Idle thread) = ⊥
 
 -- what is kept is this run
-pub record IsRun (r : Outcome Request Reply Thread Store) (turns : List KeptTurn) (history : List KeptEvent) (ending : KeptEnding) : Type 0 where
-  pub turns_are : notes_kept turns ≡ notes_taken r.world.turns
-  pub history_is : events_of history ≡ r.world.history
-  pub ending_is : ending_of ending ≡ r.ending
+pub record IsRun (r : Outcome Request Reply Thread Store) (turns : List Turn) (history : List (Event Request Reply)) (ending : KeptEnding) : Type 0 where
+  pub turns_are : turns ≡ notes_of r.world.turns
+  pub history_is : history ≡ r.world.history
+  pub ending_is : IsEnding ending r.ending

@@ -2,8 +2,8 @@
 use Rattle.std.specs.Prelude.{◌≡◌, ◌≤◌, ◌⊎◌, ◌++◌, ◌∷◌, [], ℕ, List, Option, codes}
 use Rattle.std.specs.Io.KnownBytes.{Appends}
 use Rattle.mn_outside.specs.Causes.{Rose, AppendsPrefix, AppendsTwo}
-use Rattle.run_top.specs.declared.events.Ending.{Ending}
-use Rattle.run_top.specs.declared.events.Ending.TheVariants.{Done, Turns}
+use Rattle.store_object.specs.declared.ending.Ending.{Ending}
+use Rattle.store_object.specs.declared.ending.Ending.TheVariants as kept
 use Rattle.run_top.specs.declared.record.RunRecord.{RunRecord}
 use Rattle.run_top.specs.History.{output}
 
@@ -23,14 +23,20 @@ file_line name = line (codes "File " ++ name)
 abbrev pub no_memory_line : List ℕ
 no_memory_line = line (codes "No memory")
 
--- the status of an ending, and its line
+-- the status of an ending
 abbrev pub status_of : Ending → ℕ
-status_of Done = 0
-status_of Turns = 5
+status_of kept.Done = 0
+status_of (kept.Uncaught kind) = 3
+status_of kept.Turns = 5
+status_of (kept.Stopped why) = 6
+status_of (kept.Full region key) = 6
+status_of (kept.Fault fault) = 7
 
+-- the line of an ending; a run of the first form has only the two that have an equation of their own
 abbrev pub ending_line : Ending → List ℕ
-ending_line Done = []
-ending_line Turns = line (codes "Stopped: Turns")
+ending_line kept.Done = []
+ending_line kept.Turns = line (codes "Stopped: Turns")
+ending_line ending = []
 
 -- what is written for a run: its output, and then the line of its ending
 abbrev pub shown : RunRecord → List ℕ

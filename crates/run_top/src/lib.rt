@@ -3,7 +3,6 @@
 
 mod command;
 mod compile;
-mod events;
 mod first_form;
 mod first_number;
 #[cfg(test)]
@@ -20,6 +19,5 @@ mod top;
 mod turns;
 mod written;
 
-pub use events::{Ending, Event, Form, Reply, Request, Turn, What};
-pub use record::{Outcome, RunRecord};
+pub use record::{Outcome, RunRecord, Turn};
 pub use top::aot_main;

@@ -1,6 +1,7 @@
 // A thread's core, and what its turns give.
-use crate::events::{Request, What};
+use interaction::What;
 use rv_isa::Reg;
+use store_object::Request;
 
 /// What goes on with the thread's next turn.
 #[derive(Clone, Copy, Debug, PartialEq, Eq)]
@@ -39,7 +40,7 @@ pub(crate) enum Effect {
     Breaks,
 }
 
-/// What a turn gave. A request counts as answered by Done.
+/// What a turn gave. A request counts as answered, whatever the reply.
 #[derive(Clone, Copy, Debug, PartialEq, Eq)]
 pub(crate) enum Gave {
     Did(What),

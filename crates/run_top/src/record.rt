@@ -1,6 +1,14 @@
 // What the top call answers.
-use crate::events::{Ending, Event, Turn};
 use il_model::FirstProgram;
+use interaction::What;
+use store_object::{Ending, Event};
+
+/// A turn of a thread. Threads are numbered from 0.
+#[derive(Clone, Copy, Debug, PartialEq, Eq)]
+pub struct Turn {
+    pub thread: u32,
+    pub what: What,
+}
 
 /// A run that came to an ending, with the program and the image that it is of.
 #[derive(Drop)]

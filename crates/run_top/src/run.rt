@@ -1,23 +1,25 @@
 // A whole run of an image.
-ghost use Rattle.std.specs.Prelude.{◌≡◌, ◌+◌, ◌*◌, ◌≤◌, IfOk, length};
+ghost use Rattle.std.specs.Prelude.{◌≡◌, ◌+◌, ◌*◌, ◌≤◌, ◌++◌, [], ◌∷◌, IfOk, OnOk, length};
 ghost use Rattle.interaction.specs.History.{Legal};
 ghost use Rattle.il_model.specs.WellFormed.{IsWellFormed};
-ghost use Rattle.run_top.specs.Store.{stays_live, store};
+ghost use Rattle.store_object.specs.Answer.{answer};
+ghost use Rattle.store_object.specs.Replay.{noted, replayed, store};
 ghost use Rattle.run_top.specs.Process.{begin, meaning, naming};
-ghost use Rattle.run_top.specs.Machine.{start};
+ghost use Rattle.run_top.specs.Machine.{start, stays_live};
 ghost use Rattle.run_top.specs.Gives.{thread_of};
 ghost use Rattle.run_top.specs.Code.{frame_words, image_of};
-ghost use Rattle.run_top.specs.Run.{IsRegular, IsRun, events_of, image_run};
-ghost use Rattle.run_top.specs.Executed.{AllExecuted, EndsSo};
+ghost use Rattle.run_top.specs.Run.{IsRegular, IsRun, image_run};
+ghost use Rattle.run_top.specs.Executed.{AllExecuted, AllFirst, EndsSo};
 
 use crate::compile::compile;
-use crate::events::{Ending, Event, Reply, Request, Turn, What};
 use crate::machine::{Core, Gave, Mode};
-use crate::record::RunRecord;
+use crate::record::{RunRecord, Turn};
 use crate::turns::turn;
 use il_model::FirstProgram;
+use interaction::What;
 use mn_outside::NoMemory;
 use std::alloc::{AllocError, Global};
+use store_object::{Ending, Event, Request, World};
 
 // What a run leaves.
 #[derive(Drop)]
@@ -58,44 +60,55 @@ fn main_core() -> Core
 fn stays_live(request: &Request) -> bool
     ensures { result ≡ stays_live request.now }
 {
-    match request {
-        Request::Print { form: _, word: _ } => true,
-        Request::Finish => false,
+    !matches!(request, Request::Finish)
+}
+
+// Notes a turn of thread 0.
+fn note(turns: &mut Vec<Turn>, what: What) -> Result<(), NoMemory>
+    ensures { OnOk result (turns.new.items ≡ turns.old.items ++ record { thread = 0; what = what } ∷ []) }
+{
+    match turns.push(Turn { thread: 0, what }) {
+        Ok(()) => Ok(()),
+        Err(_) => Err(NoMemory),
     }
 }
 
+// Makes a request of thread 0, whose turn it is.
+fn ask(world: &mut World, turns: &mut Vec<Turn>, request: Request) -> Result<(), NoMemory>
+    ensures history { OnOk result (world.new.history ≡ noted world.old.history 0 request (answer (replayed world.old.history) 0 request).0) }
+    ensures turns { OnOk result (turns.new.items ≡ turns.old.items ++ record { thread = 0; what = What.Action } ∷ []) }
+{
+    world.reserve()?;
+    world.ask(0, request)?;
+    note(turns, What::Action)
+}
+
 // At most so many turns of the image, from Main on. Each turn takes memory for its notes alone.
-fn run(alloc: Global, image: &[u32], words: usize, limit: u32) -> Result<Kept, AllocError>
+fn run(alloc: Global, image: &[u32], words: usize, limit: u32) -> Result<Kept, NoMemory>
     requires words { 8 ≤ words }
     requires regular { IsRegular (image_run image.now words limit).ending }
     ensures { IfOk result (λ kept. IsRun (image_run image.now words limit) kept.turns.items kept.history.items kept.ending) }
 {
     let mut core = main_core();
-    let mut main = main_frame(alloc, words)?;
+    let Ok(mut main) = main_frame(alloc, words) else {
+        return Err(NoMemory);
+    };
     let frame = main.as_mut_slice();
     let mut turns = Vec::new(alloc);
-    let mut history = Vec::new(alloc);
+    let mut world = World::new(alloc)?;
     let mut live = true;
     for made in 0..limit {
         if !live {
             return Ok(Kept {
                 turns,
-                history,
+                history: world.into_history(),
                 ending: Ending::Done,
             });
         }
         match turn(image, &mut core, frame) {
-            Gave::Did(what) => turns.push(Turn { thread: 0, what })?,
+            Gave::Did(what) => note(&mut turns, what)?,
             Gave::Asked(request) => {
-                history.push(Event {
-                    thread: 0,
-                    request,
-                    reply: Reply::Done,
-                })?;
-                turns.push(Turn {
-                    thread: 0,
-                    what: What::Action,
-                })?;
+                ask(&mut world, &mut turns, request)?;
                 live = stays_live(&request);
             }
             Gave::Nothing => unreachable!(),
@@ -104,7 +117,7 @@ fn run(alloc: Global, image: &[u32], words: usize, limit: u32) -> Result<Kept, A
     let ending = if live { Ending::Turns } else { Ending::Done };
     Ok(Kept {
         turns,
-        history,
+        history: world.into_history(),
         ending,
     })
 }
@@ -125,7 +138,8 @@ pub(crate) fn run_program(
     ensures run { IfOk result (λ r. IsRun (image_run r.image.items (frame_words program.code.items) limit) r.turns.items r.history.items r.ending) }
 
     // The program's thread makes exactly these requests when it is given these replies, which the store gives.
-    ensures legal { IfOk result (λ r. Legal store naming (meaning program.code.items) begin (events_of r.history.items)) }
+    ensures legal { IfOk result (λ r. Legal store naming (meaning program.code.items) begin r.history.items) }
+    ensures requests { IfOk result (λ r. AllFirst r.history.items) }
     ensures executed { IfOk result (λ r. AllExecuted r.image.items r.turns.items) }
     ensures ends { IfOk result (λ r. EndsSo limit r.turns.items r.history.items r.ending) }
     ensures few { IfOk result (λ r. length r.turns.items ≤ 1024 * (length program.code.items + 1)) }
@@ -134,9 +148,7 @@ pub(crate) fn run_program(
     let Ok(image) = compile(alloc, program.code.as_slice()) else {
         return Err(NoMemory);
     };
-    let Ok(kept) = run(alloc, image.as_slice(), words, limit) else {
-        return Err(NoMemory);
-    };
+    let kept = run(alloc, image.as_slice(), words, limit)?;
     Ok(RunRecord {
         program,
         image,

@@ -1,10 +1,12 @@
 // The turns of the sum of 2 and 3, written out from the code words by hand.
-use crate::events::{Ending, Form, Request, Turn, What};
+use crate::record::Turn;
 use crate::run::run_program;
 use il_model::{FirstOp, FirstProgram};
+use interaction::What;
 use std::alloc::{AllocError, Global};
 use std::process::Abort;
 use std::test::Fail;
+use store_object::{Ending, Form, Request};
 
 // The code words of `ldc.i4 2 ldc.i4 3 add`, the print and `ret`, as the RISC-V manual encodes them.
 #[rattlefmt::skip]

@@ -2,11 +2,12 @@
 ghost use Rattle.std.specs.Prelude.{◌≡◌, ◌<◌, ◌%◌, IfSome, length};
 ghost use Rattle.run_top.specs.Values.{sign_extended};
 ghost use Rattle.run_top.specs.Machine.{address_of, code_place, effect_of, extended_12, fetch, frame_place, performed, register, served, want, with_register};
-ghost use Rattle.run_top.specs.Gives.{Gives, noted_of, thread_of};
+ghost use Rattle.run_top.specs.Gives.{Gives, thread_of};
 
-use crate::events::{Form, Request, What};
 use crate::machine::{Core, Effect, Gave, Mode};
+use interaction::What;
 use rv_isa::{Imm12, Instr, Reg, decode};
+use store_object::{Form, Request};
 
 // x0 reads as zero.
 fn register(x: &[u64; 32], r: Reg) -> u64
@@ -124,7 +125,7 @@ fn fetch(image: &[u32], pc: u64) -> Option<u32>
 
 // Does what an instruction asks for.
 fn perform(core: &mut Core, frame: &mut [u64], what: What, effect: Effect) -> Gave
-    ensures { Gives (performed (noted_of what) (thread_of core.old frame.old) effect) result (thread_of core.new frame.new) }
+    ensures { Gives (performed what (thread_of core.old frame.old) effect) result (thread_of core.new frame.new) }
 {
     match effect {
         Effect::Sets { rd, value } => set_register(&mut core.x, rd, value),
@@ -169,7 +170,7 @@ fn serve(core: &mut Core, frame: &[u64]) -> Gave
     Gave::Did(What::Action)
 }
 
-/// One turn of a thread, whose core and frame are these. A request counts as answered by Done.
+/// One turn of a thread, whose core and frame are these. A request counts as answered, whatever the reply.
 pub(crate) fn turn(image: &[u32], core: &mut Core, frame: &mut [u64]) -> Gave
     ensures { Gives (want image.now (thread_of core.old frame.old)) result (thread_of core.new frame.new) }
 {

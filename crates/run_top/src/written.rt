@@ -1,16 +1,16 @@
 // What is written: a line for each print, and the line of each status.
 ghost use Rattle.std.specs.Prelude.{◌≡◌, ◌++◌, IfOk, string_bytes};
 ghost use Rattle.mn_outside.specs.Causes.{Wrote};
-ghost use Rattle.run_top.specs.declared.events.Form.TheVariants.{Number};
-ghost use Rattle.run_top.specs.declared.events.Request.TheVariants.{Print as Printed};
+ghost use Rattle.store_object.specs.declared.request.Form.TheVariants.{Number};
+ghost use Rattle.store_object.specs.declared.request.Request.TheVariants.{Print as Printed};
 ghost use Rattle.run_top.specs.History.{line_of, output};
 ghost use Rattle.run_top.specs.Written.{ending_line, line, shown};
 ghost use Rattle.run_top.specs.Written.{file_line as the_file_line, status_of as the_status_of};
 
-use crate::events::{Ending, Event, Form, Request};
 use crate::record::RunRecord;
 use mn_outside::{Failed, NoMemory, Refused, Sink};
 use std::alloc::{AllocError, Global};
+use store_object::{Ending, Event, Form, Request};
 
 pub(crate) const USAGE: &str = "Usage\n";
 
@@ -60,15 +60,16 @@ fn number_line(alloc: Global, word: u64) -> Result<String, AllocError>
 fn show_event<K: Sink>(alloc: Global, event: &Event, out: &mut K) -> Result<(), Refused<Failed>>
     ensures { Wrote (K.written out.old) (K.written out.new) (K.faults out.old) (K.faults out.new) result (line_of event.now.request) }
 {
-    match event.request {
-        Request::Print {
-            form: Form::Number,
-            word,
-        } => match number_line(alloc, word) {
-            Ok(line) => put(out, line.as_str()),
-            Err(_) => Err(Refused::NoMemory),
-        },
-        Request::Finish => Ok(()),
+    let Request::Print {
+        form: Form::Number,
+        word,
+    } = event.request
+    else {
+        return Ok(());
+    };
+    match number_line(alloc, word) {
+        Ok(line) => put(out, line.as_str()),
+        Err(_) => Err(Refused::NoMemory),
     }
 }
 
@@ -94,8 +95,8 @@ fn show_ending<K: Sink>(ending: Ending, out: &mut K) -> Result<(), Refused<Faile
     ensures { Wrote (K.written out.old) (K.written out.new) (K.faults out.old) (K.faults out.new) result (ending_line ending) }
 {
     match ending {
-        Ending::Done => Ok(()),
         Ending::Turns => put(out, TURNS_ARE_USED_UP),
+        _ => Ok(()),
     }
 }
 
@@ -119,6 +120,9 @@ pub(crate) fn status_of(ending: Ending) -> u8
 {
     match ending {
         Ending::Done => 0,
+        Ending::Uncaught { .. } => 3,
         Ending::Turns => 5,
+        Ending::Stopped { .. } | Ending::Full { .. } => 6,
+        Ending::Fault { .. } => 7,
     }
 }

@@ -4,7 +4,7 @@ use Rattle.run_top.specs.Written.{first_form_line}
 use Rattle.run_top.specs.Headline.{Refuses}
 use Rattle.run_top.specs.Headline.Refuses.{usage, text, file}
 use Rattle.run_top.proofs.RefuseLemmas.{refused_cause, refused_front, refused_short}
-use Rattle.run_top.proofs.TextLemmas.{run_refuses, run_runs, refused_runs}
+use Rattle.run_top.proofs.TextLemmas.{its_status, run_refuses, run_runs, refused_runs}
 use Rattle.run_top.proofs.top.aot_main.Given
 use Rattle.run_top.proofs.top.aot_main.Goals as goal
 
@@ -14,7 +14,7 @@ returns-in-Ok-clause-refused g c =
     run_refuses _ _ _ c.in-Some.name.now c.in-Some.limit c.in-Ok.run' (c.in-Some.ensures {u = tt}).some (c.in-Ok.ensures {u = tt}).run
 
 pub returns-in-Ok-clause-runs : goal.returns-in-Ok-clause-runs
-returns-in-Ok-clause-runs g c = run_runs _ _ _ _ _ _ _ c.in-Ok.run'.ending _ c.finish.ensures.answers
+returns-in-Ok-clause-runs g c = run_runs _ _ _ _ _ _ _ _ _ (its_status _ _ _ c.in-Ok.run' (c.in-Ok.ensures {u = tt}).run) c.finish.ensures.answers
 
 -- the words are no command
 pub returns-in_default-clause-cause : goal.returns-in_default-clause-cause

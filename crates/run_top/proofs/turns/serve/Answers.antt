@@ -5,4 +5,4 @@ use Rattle.run_top.specs.Gives.{thread_of}
 use Rattle.run_top.proofs.turns.serve.Goals as goal
 
 pub returns-then-service-eq24 : goal.returns-then-service-eq24
-returns-then-service-eq24 c = (λ reply. with_mode (thread_of c.args.core.now c.args.frame.now) Code, grind arith, refl)
+returns-then-service-eq24 c = (λ reply. with_mode (thread_of c.args.core.now c.args.frame.now) Code, grind arith, λ reply. refl)

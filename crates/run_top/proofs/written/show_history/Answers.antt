@@ -1,12 +1,13 @@
-use Rattle.run_top.specs.declared.events.Event.{Event}
-use Rattle.run_top.specs.declared.events.Form.TheVariants.{Number}
-use Rattle.run_top.specs.declared.events.Request.TheVariants.{Print}
-use Rattle.run_top.specs.declared.events.Reply.TheVariants.{Done}
+use Rattle.interaction.specs.declared.history.Event.{Event}
+use Rattle.store_object.specs.declared.reply.Reply.{Reply}
+use Rattle.store_object.specs.declared.reply.Reply.TheVariants.{Object}
+use Rattle.store_object.specs.declared.request.Request.{Request}
+use Rattle.store_object.specs.declared.request.Request.TheVariants.{Alloc}
 use Rattle.run_top.proofs.PutLemmas.{grew_wrote, refused, output_at}
 use Rattle.run_top.proofs.written.show_history.Goals as goal
 
 pub returns-in-Err : goal.returns-in-Err
 returns-in-Err g c =
-    let none : Event = record { thread = 0; request = Print Number 0; reply = Done } in
+    let none : Event Request Reply = record { thread = 0; request = Alloc 0 0 0; reply = Object 0 } in
     rw (output_at c.args.history.now c.loop-event.event-index none c.loop-event-test.true)
     (refused _ _ _ _ _ _ _ (grew_wrote _ _ _ _ _ _ _ _ _ c.loop-event.invariant (c.in-Err.ensures {u = tt})))
