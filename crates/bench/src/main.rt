@@ -3,7 +3,9 @@
 
 mod cases;
 mod memory;
+mod requests;
 
+use mn_outside::NoMemory;
 use std::alloc::{AllocError, Global};
 use std::rt::Runtime;
 use std::{env, io};
@@ -27,23 +29,48 @@ fn number(words: &[String], place: usize) -> u32 {
     }
 }
 
+fn tokens_line(alloc: Global, size: u32, rounds: u32) -> Result<String, AllocError> {
+    let found = cases::tokens_of(alloc, size as usize, rounds)?;
+    format!(in alloc; "{found} tokens")
+}
+
+fn steps_line(alloc: Global, steps: u32) -> Result<String, AllocError> {
+    let (counter, refused) = cases::steps_of(alloc, u64::from(steps))?;
+    format!(in alloc; "x5 {counter}, {refused} refused")
+}
+
+fn store_line(alloc: Global, count: u32) -> Result<String, AllocError> {
+    match requests::store_of(alloc, count) {
+        Ok(asked) => format!(in alloc;
+            "{} objects, counter {}, {} refused",
+            asked.objects, asked.counter, asked.refused
+        ),
+        Err(NoMemory) => String::from_str(alloc, "no memory"),
+    }
+}
+
 fn main(rt: HostRuntime) -> io::Result<()> {
+    let alloc = rt.alloc();
     let words = words(&rt)?;
     let case = match words.first() {
         None => "",
         Some(word) => word.as_str(),
     };
+    let first = number(words.as_slice(), 1);
     if case == "tokens" {
-        let size = number(words.as_slice(), 1);
-        let rounds = number(words.as_slice(), 2);
-        let found = cases::tokens_of(rt.alloc(), size as usize, rounds)?;
-        println!(rt; "{found} tokens")?;
+        let line = tokens_line(alloc, first, number(words.as_slice(), 2))?;
+        println!(rt; "{line}")?;
     } else if case == "steps" {
-        let steps = number(words.as_slice(), 1);
-        let (counter, refused) = cases::steps_of(rt.alloc(), u64::from(steps))?;
-        println!(rt; "x5 {counter}, {refused} refused")?;
+        let line = steps_line(alloc, first)?;
+        println!(rt; "{line}")?;
+    } else if case == "store" {
+        let line = store_line(alloc, first)?;
+        println!(rt; "{line}")?;
     } else {
-        println!(rt; "cases: tokens SIZE ROUNDS, steps COUNT")?;
+        // Each case once, tiny.
+        println!(rt; "{}", tokens_line(alloc, 640, 1)?)?;
+        println!(rt; "{}", steps_line(alloc, 600)?)?;
+        println!(rt; "{}", store_line(alloc, 800)?)?;
     }
     Ok(())
 }

@@ -108,23 +108,72 @@ fn follow(
     Ok(())
 }
 
-// The history has what was not refused.
+// The history has what was not refused, in order.
+fn expect_kept(rt: &impl Abort, history: &[Event], scripts: &[&[(u32, Request, Reply)]]) {
+    let mut at: usize = 0;
+    for script in scripts {
+        for (thread, request, reply) in *script {
+            if *reply != Reply::Halted && *reply != Reply::Improper {
+                let event = Event {
+                    thread: *thread,
+                    request: *request,
+                    reply: *reply,
+                };
+                assert_eq!(rt; history.get(at).copied(), Some(event));
+                at = at.wrapping_add(1);
+            }
+        }
+    }
+    assert_eq!(rt; history.len(), at);
+}
+
 #[test]
 fn keeps_what_is_not_refused(rt: HostRuntime) -> Result<(), Fail> {
     let mut world = World::new(rt.alloc())?;
     follow(&rt, &mut world, &SCRIPT)?;
-    let mut kept = Vec::new(rt.alloc());
-    for (thread, request, reply) in SCRIPT {
-        if reply != Reply::Halted && reply != Reply::Improper {
-            kept.push(Event {
-                thread,
-                request,
-                reply,
-            })?;
+    expect_kept(&rt, world.history(), &[SCRIPT.as_slice()]);
+    expect_kept(&rt, world.into_history().as_slice(), &[SCRIPT.as_slice()]);
+    Ok(())
+}
+
+// A request that wants for memory leaves the history, and gets its reply when it is asked again.
+fn insist(
+    rt: &impl Abort,
+    world: &mut World,
+    thread: u32,
+    request: Request,
+) -> Result<Reply, NoMemory> {
+    let before = world.history().len();
+    match world.ask(thread, request) {
+        Ok(reply) => Ok(reply),
+        Err(NoMemory) => {
+            assert_eq!(rt; world.history().len(), before);
+            world.ask(thread, request)
         }
     }
-    assert_eq!(rt; world.history(), kept.as_slice());
-    assert_eq!(rt; world.into_history().as_slice(), kept.as_slice());
+}
+
+// `tools/refuse` runs this with each one allocation refused in turn.
+#[test]
+fn goes_on_after_want_of_memory(rt: HostRuntime) -> Result<(), Fail> {
+    let mut world = match World::new(rt.alloc()) {
+        Ok(world) => world,
+        Err(NoMemory) => World::new(rt.alloc())?,
+    };
+    for script in [STATICS.as_slice(), SCRIPT.as_slice()] {
+        for (thread, request, reply) in script {
+            assert_eq!(rt;
+                insist(&rt, &mut world, *thread, *request)?,
+                *reply,
+                "at {request:?}"
+            );
+        }
+    }
+    expect_kept(
+        &rt,
+        world.history(),
+        &[STATICS.as_slice(), SCRIPT.as_slice()],
+    );
     Ok(())
 }
 
