@@ -1,0 +1,5 @@
+pub mod Regions
+pub mod Places
+pub mod NodeWords
+pub mod Directory
+pub mod Held

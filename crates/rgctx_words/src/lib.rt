@@ -1,0 +1,16 @@
+//! The context words of an image's instantiations, and the frame words of one thread.
+#![tactic(auto)]
+
+mod directory;
+mod node_word;
+mod place;
+mod plain;
+mod regions;
+mod rule;
+
+pub use directory::DirectoryWord;
+pub use node_word::{Definition, NodeWord};
+pub use place::{ContextPlace, depth_of, slot_of};
+pub use plain::PlainWords;
+pub use regions::{NODES, ROWS, WORDS, context_address, context_index, row_address, row_at};
+pub use rule::{Words, WordsRule};
