@@ -52,8 +52,8 @@ pub fn row_at(address: u64) -> Option<u16>
     }
 }
 
-// The unit that begins at an address, of so many from a start on with so many bytes each.
-fn unit_at(start: u64, bytes: u64, many: u64, address: u64) -> Option<u64>
+/// The unit that begins at an address, of so many from a start on with so many bytes each.
+pub(crate) fn unit_at(start: u64, bytes: u64, many: u64, address: u64) -> Option<u64>
     requires { 0 < bytes }
     ensures unit { result ≡ unit_at start bytes many address }
     ensures back { IfSome result (λ n. (n < many) × (start + bytes * n ≡ address)) }
