@@ -1,11 +1,10 @@
 -- What entering and leaving a frame does to memory, and that the frames that are left still rise.
-use Rattle.std.proofs.Common.{◌≡◌, ℕ, ◌+◌, ◌-◌, ◌*◌, ◌<◌, ◌≤◌, true, List, [], ◌∷◌, ◌++◌, length, take, replicate, get_or, refl, sym, ap, ◌∙◌, subst, arith, length-take}
+use Rattle.std.proofs.Common.{◌≡◌, ℕ, ◌+◌, ◌-◌, ◌*◌, ◌<◌, ◌≤◌, true, List, ◌++◌, length, take, replicate, refl, ap, ◌∙◌, arith, length-take}
 use Rattle.std.specs.Prelude.{slice_index, nat_lt}
 use Rattle.std.proofs.lemmas.Bool.Decides.{nat_tests}
-use Rattle.std.proofs.lemmas.Grind.{common_steps}
 use Rattle.rgctx_words.specs.declared.frame.NewFrame.{NewFrame}
 use Rattle.rgctx_words.specs.Memory.{beyond}
-use Rattle.rgctx_words.specs.Frames.{header, header_words, header_count, most_words, most_frames}
+use Rattle.rgctx_words.specs.Frames.{header, header_words, header_count, most_words}
 use Rattle.rgctx_words.specs.Stacks.{StackWords, mem_of, base_of, IsStack, current_address, entered, end_of, left_to}
 use Rattle.rgctx_words.proofs.MemoryLemmas.{memory, memory-append, memory-append_zeros, memory-take}
 

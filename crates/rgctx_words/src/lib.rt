@@ -9,6 +9,8 @@ mod plain;
 mod regions;
 mod rule;
 mod stack;
+#[cfg(test)]
+mod tests;
 
 pub use directory::DirectoryWord;
 pub use frame::{

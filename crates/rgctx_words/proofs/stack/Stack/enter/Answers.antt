@@ -1,4 +1,4 @@
-use Rattle.std.proofs.Common.{◌≡◌, sym, ap, ◌∙◌}
+use Rattle.std.proofs.Common.{sym, ap, ◌∙◌}
 use Rattle.rgctx_words.specs.Stacks.{StackWords, current_address}
 use Rattle.rgctx_words.proofs.StackLemmas.{memory-with_frame}
 use Rattle.rgctx_words.proofs.stack.Stack.enter.Goals as goal

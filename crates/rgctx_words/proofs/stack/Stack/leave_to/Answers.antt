@@ -1,6 +1,6 @@
-use Rattle.std.proofs.Common.{◌≡◌, ℕ, ◌+◌, ◌<◌, length, take, sym, ap, ◌∙◌, arith, subst}
+use Rattle.std.proofs.Common.{◌≡◌, ◌+◌, take, sym, ap, ◌∙◌, arith, subst}
 use Rattle.std.proofs.lemmas.Grind.{common_steps}
-use Rattle.rgctx_words.specs.Stacks.{StackWords, IsStack, base_of, end_of, mem_of}
+use Rattle.rgctx_words.specs.Stacks.{StackWords, IsStack, base_of, mem_of}
 use Rattle.rgctx_words.specs.Memory.{beyond}
 use Rattle.rgctx_words.proofs.MemoryLemmas.{memory, memory-take}
 use Rattle.rgctx_words.proofs.StackLemmas.{is_stack-cut, end-below}

@@ -1,4 +1,4 @@
-use Rattle.std.proofs.Common.{◌≡◌, ◌≢◌, ℕ, ◌<◌, ◌≤◌, length, get_or}
+use Rattle.std.proofs.Common.{◌≢◌, ℕ, ◌<◌, ◌≤◌, length, get_or}
 use Rattle.rgctx_words.specs.Frames.{frame_address}
 use Rattle.rgctx_words.proofs.stack.Stack.level_at.Given as goal
 

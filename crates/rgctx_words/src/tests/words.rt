@@ -1,0 +1,56 @@
+// One generic function on words that are alone, and on words that are not.
+ghost use Rattle.std.specs.Prelude.{◌≡◌, ◌≢◌, ℕ, ◌<◌, true};
+ghost use Rattle.rgctx_words.specs.Regions.{word_count};
+ghost use Rattle.rgctx_words.specs.Held.{Grows};
+
+use crate::tests::first::First;
+use crate::tests::forgetful::Forgetful;
+use crate::{PlainWords, Words};
+use std::test::Fail;
+
+// The word that stands at an index once this one was claimed there.
+fn settled<W: Words<First>>(words: &mut W, i: u32, new: u64) -> u64
+    requires index { i < word_count }
+    requires new { new ≢ 0 }
+    requires met { (cat : ℕ) × W.meets cat words.old }
+    ensures some { result ≢ 0 }
+    ensures held { W.held words.new i ≡ result }
+    ensures grows { Grows (W.held words.old) (W.held words.new) }
+    ensures met { (cat : ℕ) → W.meets cat words.old → W.meets cat words.new }
+{
+    let old = words.claim(i, new);
+    if old == 0 { new } else { old }
+}
+
+// The first word.
+fn first<W: Words<First>>(words: &mut W) -> u64
+    requires met { (cat : ℕ) × W.meets cat words.old }
+    ensures some { result ≢ 0 }
+    ensures met { (cat : ℕ) → W.meets cat words.old → W.meets cat words.new }
+{
+    words.load(0)
+}
+
+// Claims at a free index and at one in use, and the first word, in this order.
+fn answers<W: Words<First>>(words: &mut W) -> [u64; 4]
+    requires met { (cat : ℕ) × W.meets cat words.old }
+{
+    let fresh = settled(words, 81_919, 5);
+    let again = settled(words, 81_919, 6);
+    let taken = settled(words, 0, 8);
+    [fresh, again, taken, first(words)]
+}
+
+#[test]
+fn a_word_goes_from_0_to_one_value(rt: HostRuntime) -> Result<(), Fail> {
+    let alloc = rt.alloc();
+    let mut held = PlainWords::new(alloc)?.into_words();
+    held[0] = 7;
+    let copy = held.clone()?;
+    let mut plain = PlainWords::of(held);
+    assert_eq!(rt; answers(&mut plain), [5, 5, 7, 7]);
+    assert_eq!(rt; plain.words()[81_919], 5);
+    let mut forgetful = Forgetful::of(copy, PlainWords::new(alloc)?.into_words());
+    assert_eq!(rt; answers(&mut forgetful), [5, 5, 7, 7]);
+    Ok(())
+}
