@@ -1,7 +1,6 @@
-// A small rule: the first word is always there, and each other word names it.
-ghost use Rattle.std.specs.Prelude.{◌≡◌, ◌≢◌, ℕ, ◌<◌, ◌+◌, slice_index};
-ghost use Rattle.std.proofs.Common.{arith};
-ghost use Rattle.std.proofs.lemmas.Grind.{common_steps};
+// A small rule: the first word is always there, and each word names it.
+ghost use Rattle.std.specs.Prelude.{◌≡◌, ◌≢◌, ℕ, slice_index};
+ghost use Rattle.std.proofs.Common.{sym, ap, ◌∙◌, get_or-set_other};
 
 use crate::WordsRule;
 
@@ -10,7 +9,7 @@ pub struct First;
 impl WordsRule for First {
     type Cat = u64;
 
-    ghost fits = { λ cat words. slice_index words 0 ≡ cat + 1 };
+    ghost fits = { λ cat words. slice_index words 0 ≢ 0 };
 
     ghost allows = { λ cat held i word. Unit {0} };
 
@@ -18,9 +17,9 @@ impl WordsRule for First {
 
     ghost names = { λ i word j. j ≡ 0 };
 
-    ghost claim_fits = { λ cat words held i word count fits within low nonzero small was may. Prim.grind (arith, common_steps) };
+    ghost claim_fits = { λ cat words held i word count fits within low nonzero small was may z. fits (sym (get_or-set_other words i 0 word 0 (λ e. fits (ap (slice_index words) e ∙ was))) ∙ z) };
 
-    ghost always_there = { λ cat words i fits is. Prim.grind (arith, common_steps) };
+    ghost always_there = { λ cat words i fits is z. fits (ap (slice_index words) (sym is) ∙ z) };
 
-    ghost named_there = { λ cat words i j low fits used names. Prim.grind (arith, common_steps) };
+    ghost named_there = { λ cat words i j low fits used named z. fits (ap (slice_index words) (sym named) ∙ z) };
 }

@@ -1,11 +1,13 @@
 // One generic function on words that are alone, and on words that are not.
-ghost use Rattle.std.specs.Prelude.{◌≡◌, ◌≢◌, ℕ, ◌<◌, true};
+ghost use Rattle.std.specs.Prelude.{◌≡◌, ◌≢◌, ℕ, ◌<◌, IfOk, vec_len, slice_index};
 ghost use Rattle.rgctx_words.specs.Regions.{word_count};
 ghost use Rattle.rgctx_words.specs.Held.{Grows};
 
 use crate::tests::first::First;
 use crate::tests::forgetful::Forgetful;
 use crate::{PlainWords, Words};
+use mn_outside::NoMemory;
+use std::alloc::Global;
 use std::test::Fail;
 
 // The word that stands at an index once this one was claimed there.
@@ -41,16 +43,42 @@ fn answers<W: Words<First>>(words: &mut W) -> [u64; 4]
     [fresh, again, taken, first(words)]
 }
 
+// Words of which the first is 7, and the others are 0.
+fn start(alloc: Global) -> Result<Vec<u64>, NoMemory>
+    ensures count { IfOk result (λ words. vec_len words ≡ word_count) }
+    ensures first { IfOk result (λ words. slice_index words.items 0 ≡ 7) }
+{
+    let mut words = PlainWords::new(alloc)?.into_words();
+    words[0] = 7;
+    Ok(words)
+}
+
+// The answers of words that are alone.
+fn plain_answers(words: Vec<u64>) -> [u64; 4]
+    requires count { vec_len words ≡ word_count }
+    requires first { slice_index words.items 0 ≢ 0 }
+{
+    let mut plain = PlainWords::of(words);
+    answers(&mut plain)
+}
+
+// The answers of words that are not.
+fn forgetful_answers(words: Vec<u64>, zeros: PlainWords) -> [u64; 4]
+    requires count { vec_len words ≡ word_count }
+    requires first { slice_index words.items 0 ≢ 0 }
+    requires zero { (i : ℕ) → slice_index zeros i ≡ 0 }
+{
+    let mut forgetful = Forgetful::of(words, zeros.into_words());
+    answers(&mut forgetful)
+}
+
 #[test]
 fn a_word_goes_from_0_to_one_value(rt: HostRuntime) -> Result<(), Fail> {
     let alloc = rt.alloc();
-    let mut held = PlainWords::new(alloc)?.into_words();
-    held[0] = 7;
-    let copy = held.clone()?;
-    let mut plain = PlainWords::of(held);
-    assert_eq!(rt; answers(&mut plain), [5, 5, 7, 7]);
-    assert_eq!(rt; plain.words()[81_919], 5);
-    let mut forgetful = Forgetful::of(copy, PlainWords::new(alloc)?.into_words());
-    assert_eq!(rt; answers(&mut forgetful), [5, 5, 7, 7]);
+    assert_eq!(rt; plain_answers(start(alloc)?), [5, 5, 7, 7]);
+    assert_eq!(rt;
+        forgetful_answers(start(alloc)?, PlainWords::new(alloc)?),
+        [5, 5, 7, 7]
+    );
     Ok(())
 }
