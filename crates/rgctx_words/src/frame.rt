@@ -1,5 +1,5 @@
 // Frames in words: where they lie, and what a new one begins with.
-ghost use Rattle.std.specs.Prelude.{◌≡◌, ◌<◌, ◌≤◌, ℕ, Some, IfSome};
+ghost use Rattle.std.specs.Prelude.{◌≡◌, ◌<◌, ◌≤◌, ℕ, Some};
 ghost use Rattle.rgctx_words.specs.Frames.{frame_address, frame_index, place_offset, interpreted_length, header_count, most_words};
 
 /// The words of a frame's header, by number: the caller's frame or 0, the return pc or 0 where the caller is

@@ -1,5 +1,5 @@
 // Node words: a definition with up to three nodes as its arguments.
-ghost use Rattle.std.specs.Prelude.{◌≡◌, ◌<◌, ◌^◌, Some, IfSome};
+ghost use Rattle.std.specs.Prelude.{◌≡◌, Some, IfSome};
 ghost use Rattle.rgctx_words.specs.NodeWords.{node_word, node_read, number_of, IsNumbered, definition_of};
 
 /// What a node word says: the number of a definition, and the nodes of its arguments in order, 0 where there

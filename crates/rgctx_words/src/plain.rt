@@ -1,6 +1,5 @@
 // The context words in a vector.
-ghost use Rattle.std.proofs.Common.{rules};
-ghost use Rattle.std.specs.Prelude.{◌≡◌, ◌≢◌, ℕ, ◌<◌, List, length, slice_index, IfOk, vec_len, true, None, refl, All};
+ghost use Rattle.std.specs.Prelude.{◌≡◌, ℕ, List, length, slice_index, IfOk, vec_len, true, None, refl};
 ghost use Rattle.rgctx_words.specs.Regions.{word_count};
 ghost use Rattle.rgctx_words.specs.Held.{AreFit};
 

@@ -1,5 +1,5 @@
 // The frames of one thread.
-ghost use Rattle.std.specs.Prelude.{◌≡◌, ◌≢◌, ◌+◌, ◌-◌, ◌<◌, ◌≤◌, ◌++◌, ℕ, List, length, replicate, OnOk, OnErr, Ok};
+ghost use Rattle.std.specs.Prelude.{◌≡◌, ◌-◌, ◌<◌, ◌≤◌, ◌++◌, length, replicate, OnOk, OnErr, Ok};
 ghost use Rattle.rgctx_words.specs.Memory.{put, beyond};
 ghost use Rattle.rgctx_words.specs.Frames.{frame_index, header, header_words, header_count, most_words, most_frames};
 ghost use Rattle.rgctx_words.specs.Stacks.{no_frames, mem_of, base_of, IsStack, current_address, with_word, entered, end_of, left_to, IsLevelAt};

@@ -1,5 +1,5 @@
 // A small rule: the first word is always there, and each word names it.
-ghost use Rattle.std.specs.Prelude.{◌≡◌, ◌≢◌, ℕ, slice_index};
+ghost use Rattle.std.specs.Prelude.{◌≡◌, ◌≢◌, slice_index};
 ghost use Rattle.std.proofs.Common.{sym, ap, ◌∙◌, get_or-set_other};
 
 use crate::WordsRule;

@@ -1,5 +1,5 @@
 // Words that are not alone: they hold only what was answered or put.
-ghost use Rattle.std.specs.Prelude.{◌≡◌, ◌≢◌, ℕ, ◌<◌, List, slice_index, vec_len, false, None};
+ghost use Rattle.std.specs.Prelude.{◌≡◌, ℕ, List, slice_index, vec_len, false, None};
 ghost use Rattle.rgctx_words.specs.Regions.{word_count};
 ghost use Rattle.rgctx_words.specs.Held.{AreFit, Within};
 
