@@ -1,11 +1,11 @@
 -- Laws of keys: the canonical key serves its types, and being closer is a strict order.
-use Rattle.std.proofs.Common.{◌≡◌, ℕ, zero, suc, ◌+◌, ◌<◌, ◌⊎◌, inl, inr, ⊎_elim, Bool, true, false, IsTrue, List, [], ◌∷◌, length, map, slice_get, Option, Some, None, if◌then◌else◌, refl, sym, ap, ◌∙◌, subst, arith}
+use Rattle.std.proofs.Common.{◌≡◌, ℕ, zero, suc, ◌<◌, ◌⊎◌, Bool, true, false, IsTrue, List, [], ◌∷◌, map, slice_get, Some, if◌then◌else◌, refl, sym, ap, ◌∙◌, subst, arith}
 use Rattle.std.proofs.lemmas.Option.{same_Some, none-some}
 use Rattle.std.proofs.lemmas.List.{length-map}
 use Rattle.type_tree.specs.declared.tree.TExpr.{TExpr}
 use Rattle.il_model.specs.declared.program.Program.{Program}
 use Rattle.il_model.specs.declared.key.KeyPart.{KeyPart}
-use Rattle.il_model.specs.declared.key.KeyPart.TheVariants.{Ref, Any, Exact}
+use Rattle.il_model.specs.declared.key.KeyPart.TheVariants.{Ref, Exact}
 use Rattle.il_model.specs.Kinds.{is_reference}
 use Rattle.share_canon.specs.Keys.{ServesPart, Serves, IsCloser, exact_parts, reference_parts, canonical, canonical_part}
 

@@ -1,10 +1,9 @@
 -- The best match, row by row, and that it is the only one.
-use Rattle.std.proofs.Common.{◌≡◌, ℕ, ◌+◌, ◌<◌, ◌≤◌, ◌⊎◌, inl, inr, ⊎_elim, List, length, slice_get, Option, Some, None, refl, sym, ap, ◌∙◌, subst, arith}
+use Rattle.std.proofs.Common.{◌≡◌, ℕ, ◌+◌, ◌<◌, inl, inr, List, slice_get, Option, Some, None, refl, sym, ap, ◌∙◌, subst, arith}
 use Rattle.std.proofs.Math.Nat.{eq-or-lt_of_le}
 use Rattle.std.proofs.lemmas.Option.{same_Some}
 use Rattle.type_tree.specs.declared.tree.TExpr.{TExpr}
 use Rattle.il_model.specs.declared.program.Program.{Program}
-use Rattle.il_model.specs.declared.key.KeyPart.{KeyPart}
 use Rattle.il_model.specs.declared.key.BodyRow.{BodyRow}
 use Rattle.share_canon.specs.Keys.{IsCloser}
 use Rattle.share_canon.specs.Rows.{ServesAt, NoneServes, IsBest, Picks}
