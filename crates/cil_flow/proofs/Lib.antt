@@ -1,0 +1,5 @@
+mod EffectLemmas
+pub mod DepthLemmas
+mod PassLemmas
+mod MarkLemmas
+mod FaultLemmas

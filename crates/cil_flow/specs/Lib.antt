@@ -1,0 +1,6 @@
+pub mod Effects
+pub mod Control
+pub mod Regions
+pub mod Depths
+pub mod Flow
+pub mod Pass
