@@ -13,6 +13,8 @@ mod pass;
 mod plan;
 mod region;
 mod state;
+#[cfg(test)]
+mod tests;
 
 pub use control::{Control, control_of, targets_of};
 pub use effect::{Effect, effect_of};

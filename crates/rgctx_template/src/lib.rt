@@ -1,0 +1,11 @@
+//! The templates of methods and classes: what their code fetches from a runtime generic context, in order.
+#![tactic(auto)]
+
+mod collecting;
+mod found;
+mod members;
+mod mention;
+mod templating;
+
+pub use il_model::{Def, Entry};
+pub use templating::template;
