@@ -31,7 +31,9 @@ fn same_entry(first: &Entry, second: &Entry) -> bool
     match (first, second) {
         (Entry::Kind(kind), Entry::Kind(other)) => same_type(kind, other),
         (Entry::Method(number, class, args), Entry::Method(other, owner, others)) => {
-            *number == *other && same_type(class, owner) && same_types(args.as_slice(), others.as_slice())
+            *number == *other
+                && same_type(class, owner)
+                && same_types(args.as_slice(), others.as_slice())
         }
         (Entry::Size(kind), Entry::Size(other)) => same_type(kind, other),
         (Entry::Extent(kind), Entry::Extent(other)) => same_type(kind, other),
@@ -39,7 +41,15 @@ fn same_entry(first: &Entry, second: &Entry) -> bool
             same_type(kind, other) && *place == *number
         }
         (Entry::Slot(number), Entry::Slot(other)) => *number == *other,
-        (Entry::Kind(_) | Entry::Method(_, _, _) | Entry::Size(_) | Entry::Extent(_) | Entry::Offset(_, _) | Entry::Slot(_), _) => false,
+        (
+            Entry::Kind(_)
+            | Entry::Method(_, _, _)
+            | Entry::Size(_)
+            | Entry::Extent(_)
+            | Entry::Offset(_, _)
+            | Entry::Slot(_),
+            _,
+        ) => false,
     }
 }
 
@@ -60,7 +70,11 @@ pub(crate) fn add(entries: &mut Items<Entry>, entry: Entry) -> Result<(), NoMemo
 }
 
 /// Adds the kind of a type.
-pub(crate) fn add_kind(alloc: Global, entries: &mut Items<Entry>, kind: &TExpr) -> Result<(), NoMemory>
+pub(crate) fn add_kind(
+    alloc: Global,
+    entries: &mut Items<Entry>,
+    kind: &TExpr,
+) -> Result<(), NoMemory>
     ensures { OnOk result (entries.new ≡ added entries.old (entry.Kind kind.now)) }
 {
     let kind = kind.copy(alloc)?;
@@ -68,7 +82,12 @@ pub(crate) fn add_kind(alloc: Global, entries: &mut Items<Entry>, kind: &TExpr) 
 }
 
 /// Adds the size of a type's value, unless it is a reference type.
-pub(crate) fn add_size(alloc: Global, program: &Program, entries: &mut Items<Entry>, kind: &TExpr) -> Result<(), NoMemory>
+pub(crate) fn add_size(
+    alloc: Global,
+    program: &Program,
+    entries: &mut Items<Entry>,
+    kind: &TExpr,
+) -> Result<(), NoMemory>
     ensures { OnOk result (entries.new ≡ collected entries.old (size_entries program.now kind.now)) }
 {
     if is_reference(program, kind) {
@@ -79,7 +98,12 @@ pub(crate) fn add_size(alloc: Global, program: &Program, entries: &mut Items<Ent
 }
 
 /// Adds what an instruction on a type fetches.
-pub(crate) fn add_type(alloc: Global, program: &Program, entries: &mut Items<Entry>, kind: &TExpr) -> Result<(), NoMemory>
+pub(crate) fn add_type(
+    alloc: Global,
+    program: &Program,
+    entries: &mut Items<Entry>,
+    kind: &TExpr,
+) -> Result<(), NoMemory>
     ensures { OnOk result (entries.new ≡ collected entries.old (type_entries program.now kind.now)) }
 {
     add_kind(alloc, entries, kind)?;

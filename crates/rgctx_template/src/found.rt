@@ -6,7 +6,9 @@ ghost use Rattle.il_model.specs.Find.{class_of};
 ghost use Rattle.il_model.specs.Found.{method_at, method_found, field_found};
 ghost use Rattle.il_model.specs.Entries.{arguments_of, has_slot, has_slot_in};
 
-use il_model::{ClassDef, ClassKind, FRef, MRef, MethodDef, Program, Shape, find_field, find_method};
+use il_model::{
+    ClassDef, ClassKind, FRef, MRef, MethodDef, Program, Shape, find_field, find_method,
+};
 use type_tree::{Head, TExpr, TNode};
 
 // The definition of the class that a type names.

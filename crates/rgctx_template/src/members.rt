@@ -24,7 +24,12 @@ fn vector_of(alloc: Global, kind: &TExpr) -> Result<TExpr, NoMemory>
 }
 
 /// Adds what `newarr` fetches.
-pub(crate) fn add_vector(alloc: Global, program: &Program, entries: &mut Items<Entry>, kind: &TExpr) -> Result<(), NoMemory>
+pub(crate) fn add_vector(
+    alloc: Global,
+    program: &Program,
+    entries: &mut Items<Entry>,
+    kind: &TExpr,
+) -> Result<(), NoMemory>
     ensures { OnOk result (entries.new ≡ collected entries.old (spec.vector_entries program.now kind.now)) }
 {
     let vector = vector_of(alloc, kind)?;
@@ -40,7 +45,12 @@ fn field_type(alloc: Global, field: &FRef) -> Result<TExpr, NoMemory>
 }
 
 // Adds the place of a field.
-fn add_offset(alloc: Global, entries: &mut Items<Entry>, class: &TExpr, place: u16) -> Result<(), NoMemory>
+fn add_offset(
+    alloc: Global,
+    entries: &mut Items<Entry>,
+    class: &TExpr,
+    place: u16,
+) -> Result<(), NoMemory>
     ensures { OnOk result (entries.new ≡ added entries.old (entry.Offset class.now place)) }
 {
     let class = class.copy(alloc)?;
@@ -48,7 +58,12 @@ fn add_offset(alloc: Global, entries: &mut Items<Entry>, class: &TExpr, place: u
 }
 
 /// Adds what an instruction on a field fetches.
-pub(crate) fn add_field(alloc: Global, program: &Program, entries: &mut Items<Entry>, field: &FRef) -> Result<(), NoMemory>
+pub(crate) fn add_field(
+    alloc: Global,
+    program: &Program,
+    entries: &mut Items<Entry>,
+    field: &FRef,
+) -> Result<(), NoMemory>
     ensures { OnOk result (entries.new ≡ collected entries.old (spec.field_entries program.now field.now)) }
 {
     let Some(place) = field_found(program, field) else {
@@ -61,7 +76,12 @@ pub(crate) fn add_field(alloc: Global, program: &Program, entries: &mut Items<En
 }
 
 // Adds the method with this number.
-fn add_method(alloc: Global, entries: &mut Items<Entry>, named: &MRef, number: u16) -> Result<(), NoMemory>
+fn add_method(
+    alloc: Global,
+    entries: &mut Items<Entry>,
+    named: &MRef,
+    number: u16,
+) -> Result<(), NoMemory>
     ensures { OnOk result (entries.new ≡ added entries.old (spec.method_entry named.now number)) }
 {
     let class = named.class.copy(alloc)?;
@@ -70,7 +90,12 @@ fn add_method(alloc: Global, entries: &mut Items<Entry>, named: &MRef, number: u
 }
 
 /// Adds what `call` fetches.
-pub(crate) fn add_call(alloc: Global, program: &Program, entries: &mut Items<Entry>, named: &MRef) -> Result<(), NoMemory>
+pub(crate) fn add_call(
+    alloc: Global,
+    program: &Program,
+    entries: &mut Items<Entry>,
+    named: &MRef,
+) -> Result<(), NoMemory>
     ensures { OnOk result (entries.new ≡ collected entries.old (spec.call_entries program.now named.now)) }
 {
     match method_found(program, named) {
@@ -80,7 +105,12 @@ pub(crate) fn add_call(alloc: Global, program: &Program, entries: &mut Items<Ent
 }
 
 /// Adds what `callvirt` fetches.
-pub(crate) fn add_virtual_call(alloc: Global, program: &Program, entries: &mut Items<Entry>, named: &MRef) -> Result<(), NoMemory>
+pub(crate) fn add_virtual_call(
+    alloc: Global,
+    program: &Program,
+    entries: &mut Items<Entry>,
+    named: &MRef,
+) -> Result<(), NoMemory>
     ensures { OnOk result (entries.new ≡ collected entries.old (spec.callvirt_entries program.now named.now)) }
 {
     let Some(number) = method_found(program, named) else {
@@ -93,7 +123,13 @@ pub(crate) fn add_virtual_call(alloc: Global, program: &Program, entries: &mut I
 }
 
 /// Adds what `constrained.` and its `callvirt` fetch.
-pub(crate) fn add_constrained(alloc: Global, program: &Program, entries: &mut Items<Entry>, kind: &TExpr, named: &MRef) -> Result<(), NoMemory>
+pub(crate) fn add_constrained(
+    alloc: Global,
+    program: &Program,
+    entries: &mut Items<Entry>,
+    kind: &TExpr,
+    named: &MRef,
+) -> Result<(), NoMemory>
     ensures { OnOk result (entries.new ≡ collected entries.old (spec.constrained_entries program.now kind.now named.now)) }
 {
     add_type(alloc, program, entries, kind)?;
@@ -109,7 +145,12 @@ fn add_extent(alloc: Global, entries: &mut Items<Entry>, class: &TExpr) -> Resul
 }
 
 /// Adds what `newobj` fetches.
-pub(crate) fn add_new(alloc: Global, program: &Program, entries: &mut Items<Entry>, named: &MRef) -> Result<(), NoMemory>
+pub(crate) fn add_new(
+    alloc: Global,
+    program: &Program,
+    entries: &mut Items<Entry>,
+    named: &MRef,
+) -> Result<(), NoMemory>
     ensures { OnOk result (entries.new ≡ collected entries.old (spec.new_entries program.now named.now)) }
 {
     let Some(number) = method_found(program, named) else {

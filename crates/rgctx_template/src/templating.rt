@@ -14,7 +14,12 @@ use sqlite_items::Items;
 use std::alloc::Global;
 
 // Adds what an instruction fetches.
-fn add_op(alloc: Global, program: &Program, entries: &mut Items<Entry>, op: &Op) -> Result<(), NoMemory>
+fn add_op(
+    alloc: Global,
+    program: &Program,
+    entries: &mut Items<Entry>,
+    op: &Op,
+) -> Result<(), NoMemory>
     ensures { OnOk result (entries.new ≡ collected entries.old (spec.entries_of program.now op.now)) }
 {
     match mention_of(op) {
@@ -30,7 +35,12 @@ fn add_op(alloc: Global, program: &Program, entries: &mut Items<Entry>, op: &Op)
     }
 }
 
-fn add_code(alloc: Global, program: &Program, entries: &mut Items<Entry>, code: &[Op]) -> Result<(), NoMemory>
+fn add_code(
+    alloc: Global,
+    program: &Program,
+    entries: &mut Items<Entry>,
+    code: &[Op],
+) -> Result<(), NoMemory>
     ensures { OnOk result (entries.new ≡ collected entries.old (flat_map (spec.entries_of program.now) code.now)) }
 {
     for op in code {
@@ -48,7 +58,11 @@ fn add_clause(alloc: Global, entries: &mut Items<Entry>, clause: &Clause) -> Res
     }
 }
 
-fn add_clauses(alloc: Global, entries: &mut Items<Entry>, clauses: &[Clause]) -> Result<(), NoMemory>
+fn add_clauses(
+    alloc: Global,
+    entries: &mut Items<Entry>,
+    clauses: &[Clause],
+) -> Result<(), NoMemory>
     ensures { OnOk result (entries.new ≡ collected entries.old (flat_map spec.clause_entries clauses.now)) }
 {
     for clause in clauses {
@@ -66,7 +80,11 @@ fn template_of_body(alloc: Global, program: &Program, body: &Body) -> Result<Ite
     Ok(entries)
 }
 
-fn template_of_method(alloc: Global, program: &Program, number: u16) -> Result<Items<Entry>, NoMemory>
+fn template_of_method(
+    alloc: Global,
+    program: &Program,
+    number: u16,
+) -> Result<Items<Entry>, NoMemory>
     ensures { IfOk result (λ es. es ≡ spec.template_of program.now (def.Method number)) }
 {
     let Some(method) = method_at(program, number) else {
