@@ -6,6 +6,8 @@ mod found;
 mod members;
 mod mention;
 mod templating;
+#[cfg(test)]
+mod tests;
 
 pub use il_model::{Def, Entry};
 pub use templating::template;
