@@ -1,6 +1,6 @@
 -- What the look-up of members finds is what the functions give.
 use Rattle.std.proofs.Common.{◌≡◌, ◌∙◌, ℕ, zero, suc, ◌+◌, ◌<◌, ◌≤◌, Bool, true, false, cond, not, nat_lt, List, [], ◌∷◌, length, take, slice_get, bytes_eq, ◌==◌, ◌&&◌, Some, None, Option, option_and_then, subst, sym, ap, refl, arith}
-use Rattle.std.specs.Bool.{Decides}
+use Rattle.std.specs.Bool.{Decides, beq}
 use Rattle.std.specs.List.{find, position, position_or_len}
 use Rattle.std.proofs.lemmas.Bool.Decides.{nat_tests, Decides-and, Decides-like, Decides-eqb}
 use Rattle.std.proofs.lemmas.Option.{slice_get_within}
@@ -48,7 +48,7 @@ module _ {A : Type 0} (test : A → Bool) (P : A → Type 0) (each : (x : A) →
   place_none [] n = refl
   place_none (x ∷ xs) n =
       let rest : position_or_len test xs ≡ length xs = place_none xs (none_after x xs (length xs) n) in
-      ap (λ (b : Bool). cond (not b) (1 + position_or_len test xs) 0) (first_fails x xs (length xs) n) ∙ omega arith
+      ap (λ (b : Bool). cond (not b) (1 + position_or_len test xs) 0) (first_fails x xs (length xs) n) ∙ (let step : 1 + position_or_len test xs ≡ suc (length xs) = omega arith in step)
 
   place_first : (xs : List A) (k : ℕ) (y : A) → slice_get xs k ≡ Some y → P y → NoneBefore P xs k → position_or_len test xs ≡ k
   place_first [] k y is holds n = cc
@@ -57,7 +57,7 @@ module _ {A : Type 0} (test : A → Bool) (P : A → Type 0) (each : (x : A) →
       ap (λ (b : Bool). cond (not b) (1 + position_or_len test xs) 0) ((each x).1 (subst P (sym same) holds))
   place_first (x ∷ xs) (suc k) y is holds n =
       let rest : position_or_len test xs ≡ k = place_first xs k y is holds (none_after x xs k n) in
-      ap (λ (b : Bool). cond (not b) (1 + position_or_len test xs) 0) (first_fails x xs k n) ∙ omega arith
+      ap (λ (b : Bool). cond (not b) (1 + position_or_len test xs) 0) (first_fails x xs k n) ∙ (let step : 1 + position_or_len test xs ≡ suc k = omega arith in step)
 
   position_none : (xs : List A) → NoneBefore P xs (length xs) → position test xs ≡ None
   position_none xs n =
@@ -87,41 +87,27 @@ same_result-Decides None (Some t) = ((λ e. cc), (λ e. cc))
 same_params-Decides : (a b : List PType) → Decides (pointwise same_param a b) (a ≡ b)
 same_params-Decides a b = slice_eq-Decides same_param-Decides a b (pointwise same_param a b) refl
 
-and_parts : (a b : Bool) → (a && b) ≡ true → (a ≡ true) × (b ≡ true)
-and_parts true b e = (refl, e)
-and_parts false b e = cc
-
-and_made : (a b : Bool) → a ≡ true → b ≡ true → (a && b) ≡ true
-and_made true b e f = f
-and_made false b e f = cc
-
 named-Decides : (named : MRef) (m : MethodDef) → Decides (is_method_named named m) (IsMethodNamed named m)
-named-Decides named m = (
-  (λ e.
-      let name = and_parts (bytes_eq m.name named.name) _ e in
-      let vars = and_parts (length m.vars == length named.args) _ name.1 in
-      let params = and_parts (pointwise same_param m.params named.params) _ vars.1 in
-      let gives = and_parts (same_result m.result named.result) _ params.1 in
-      record {
-        name = (bytes_eq-Decides m.name named.name).0 name.0;
-        vars = (Decides-eqb (length m.vars) (length named.args)).0 vars.0;
-        params = (same_params-Decides m.params named.params).0 params.0;
-        gives = (same_result-Decides m.result named.result).0 gives.0;
-        object = (booleans_Decides (takes_object m.shape) named.instance).0 gives.1;
-      }),
-  (λ is. and_made _ _ ((bytes_eq-Decides m.name named.name).1 is.name)
-      (and_made _ _ ((Decides-eqb (length m.vars) (length named.args)).1 is.vars)
-      (and_made _ _ ((same_params-Decides m.params named.params).1 is.params)
-      (and_made _ _ ((same_result-Decides m.result named.result).1 is.gives)
-      ((booleans_Decides (takes_object m.shape) named.instance).1 is.object))))),
-)
+named-Decides named m =
+    Decides-like (is_method_named named m)
+    (λ p. record { name = p.0.0.0.0; vars = p.0.0.0.1; params = p.0.0.1; gives = p.0.1; object = p.1 })
+    (λ is. ((((is.name, is.vars), is.params), is.gives), is.object))
+    (Decides-and (bytes_eq m.name named.name && (length m.vars == length named.args) && pointwise same_param m.params named.params && same_result m.result named.result) (beq (takes_object m.shape) named.instance)
+    (Decides-and (bytes_eq m.name named.name && (length m.vars == length named.args) && pointwise same_param m.params named.params) (same_result m.result named.result)
+    (Decides-and (bytes_eq m.name named.name && (length m.vars == length named.args)) (pointwise same_param m.params named.params)
+    (Decides-and (bytes_eq m.name named.name) (length m.vars == length named.args)
+    (bytes_eq-Decides m.name named.name)
+    (Decides-eqb (length m.vars) (length named.args)))
+    (same_params-Decides m.params named.params))
+    (same_result-Decides m.result named.result))
+    (booleans_Decides (takes_object m.shape) named.instance))
 
 field-Decides : (named : FRef) (f : FieldDef) → Decides (is_field_named named f) (IsFieldNamed named f)
-field-Decides named f = (
-  (λ e. let parts = and_parts (bytes_eq f.name named.name) _ e in
-      record { name = (bytes_eq-Decides f.name named.name).0 parts.0; kind = (is_same-Decides f.kind named.kind).0 parts.1 }),
-  (λ is. and_made _ _ ((bytes_eq-Decides f.name named.name).1 is.name) ((is_same-Decides f.kind named.kind).1 is.kind)),
-)
+field-Decides named f =
+    Decides-like (is_field_named named f)
+    (λ p. record { name = p.0; kind = p.1 })
+    (λ is. (is.name, is.kind))
+    (Decides-and (bytes_eq f.name named.name) (is_same f.kind named.kind) (bytes_eq-Decides f.name named.name) (is_same-Decides f.kind named.kind))
 
 number-Decides : (program : Program) (named : MRef) (number : ℕ) → Decides (is_named_in named (method_at program number)) (HasMethod program named number)
 number-Decides program named number =

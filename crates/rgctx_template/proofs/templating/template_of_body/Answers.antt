@@ -1,0 +1,7 @@
+use Rattle.rgctx_template.proofs.CollectedLemmas.{body_collected}
+use Rattle.rgctx_template.proofs.templating.template_of_body.Goals as goal
+
+pub returns : goal.returns
+returns c =
+    body_collected c.args.program.now c.args.body.now c.new-entries.result c.add_code.new.entries c.add_clauses.new.entries c.as_slice.result.now c.as_slice-2.result.now
+    c.new-entries.ensures c.as_slice.ensures c.as_slice-2.ensures (c.in_ok-add_code.ensures {u = tt}) (c.in_ok-add_clauses.ensures {u = tt})
