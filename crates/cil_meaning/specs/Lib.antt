@@ -22,3 +22,4 @@ pub mod Meaning
 pub mod Threads
 pub mod Language
 pub mod Shown
+pub mod SmallPrograms

@@ -1,0 +1,20 @@
+use Rattle.cil_meaning.proofs.NumberPrograms.{sums_mean, shifts_mean, division_means, least_means, checked_sum_means, joins_nobody_means}
+use Rattle.cil_meaning.proofs.small_programs.small_programs_mean_so.Goals as goal
+
+pub returns-clause-sums : goal.returns-clause-sums
+returns-clause-sums c = sums_mean
+
+pub returns-clause-shifts : goal.returns-clause-shifts
+returns-clause-shifts c = shifts_mean
+
+pub returns-clause-division : goal.returns-clause-division
+returns-clause-division c = division_means
+
+pub returns-clause-least : goal.returns-clause-least
+returns-clause-least c = least_means
+
+pub returns-clause-checked_sum : goal.returns-clause-checked_sum
+returns-clause-checked_sum c = checked_sum_means
+
+pub returns-clause-joins_nobody : goal.returns-clause-joins_nobody
+returns-clause-joins_nobody c = joins_nobody_means
