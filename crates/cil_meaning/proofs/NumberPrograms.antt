@@ -1,7 +1,6 @@
 -- The small programs on numbers mean what was written by hand.
 use Rattle.std.proofs.Common.{refl}
-use Rattle.interaction.specs.Process.{rests, begins, settles, spells, asks}
-use Rattle.interaction.specs.Object.{Answers}
+use Rattle.interaction.specs.Process.{rests, begins, settles, asks}
 use Rattle.cil_meaning.specs.SmallPrograms.{Means, faults_named, sums, sums_history, shifts, shifts_history, division, division_history, least, checked_sum, overflow_history, joins_nobody, joins_nobody_history}
 
 pub sums_mean : Means sums faults_named sums_history

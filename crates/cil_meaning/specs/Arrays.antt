@@ -3,13 +3,14 @@ use Rattle.std.specs.Prelude.{ℕ, ◌*◌, ◌^◌, ◌==◌, nat_lt, Bool, tru
 use Rattle.type_tree.specs.declared.tree.TExpr.{TExpr}
 use Rattle.il_model.specs.declared.program.Program.{Program}
 use Rattle.il_model.specs.Kinds.{is_reference}
+use Rattle.il_model.specs.Assignable.{element_of}
 use Rattle.il_model.specs.Layouts.{words_of}
 use Rattle.interaction.specs.Process.{Ask, Stuck}
 use Rattle.store_object.specs.declared.place.Place.TheVariants as at
 use Rattle.store_object.specs.declared.request.Request.TheVariants as ask
-use Rattle.cil_meaning.specs.Values.{Kind, Native, Reference, Value, Plain, is_int32, is_native}
+use Rattle.cil_meaning.specs.Values.{Native, Reference, Value, Plain, is_int32, is_native}
 use Rattle.cil_meaning.specs.Naming.{put_type}
-use Rattle.cil_meaning.specs.Types.{kind_of, element_of, passes_as}
+use Rattle.cil_meaning.specs.Types.{kind_of, passes_as}
 use Rattle.cil_meaning.specs.Replies.{Left, on_object, on_word}
 use Rattle.cil_meaning.specs.Search.{overflow, null_reference, index_out_of_range, array_type_mismatch}
 use Rattle.cil_meaning.specs.Site.{Site, goes, throws}

@@ -7,7 +7,7 @@ use Rattle.il_model.specs.Layouts.{words_of}
 use Rattle.interaction.specs.Process.{Ask}
 use Rattle.store_object.specs.declared.place.Place.TheVariants as at
 use Rattle.store_object.specs.declared.request.Request.TheVariants as ask
-use Rattle.cil_meaning.specs.Values.{Kind, Reference, Value, Plain}
+use Rattle.cil_meaning.specs.Values.{Reference, Value, Plain}
 use Rattle.cil_meaning.specs.Naming.{put_type}
 use Rattle.cil_meaning.specs.Types.{kind_of, passes_as}
 use Rattle.cil_meaning.specs.Replies.{Left, on_object}

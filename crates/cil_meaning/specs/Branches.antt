@@ -1,5 +1,5 @@
 -- Branches. ECMA-335, Partition III.
-use Rattle.std.specs.Prelude.{ℕ, ◌==◌, Bool, true, false, not, if◌then◌else◌, List, [], ◌∷◌, Option, Some, None, slice_get}
+use Rattle.std.specs.Prelude.{ℕ, ◌==◌, Bool, true, false, not, if◌then◌else◌, List, [], Option, Some, None, slice_get}
 use Rattle.interaction.specs.Process.{Stuck}
 use Rattle.cil_meaning.specs.Values.{Value, is_int32, is_struct}
 use Rattle.cil_meaning.specs.Replies.{Left}

@@ -2,25 +2,20 @@
 use Rattle.std.specs.Prelude.{ℕ, suc, ◌+◌, ◌==◌, nat_lt, Bool, true, false, if◌then◌else◌, List, [], ◌∷◌, ◌++◌, length, map, replicate, position, Option, Some, None, option_and_then, slice_get}
 use Rattle.type_tree.specs.declared.tree.TExpr.{TExpr}
 use Rattle.il_model.specs.declared.program.Program.{Program}
-use Rattle.il_model.specs.declared.class.ClassDef.{ClassDef}
-use Rattle.il_model.specs.declared.class.ClassKind.{ClassKind}
-use Rattle.il_model.specs.declared.class.ClassKind.TheVariants as kind
-use Rattle.il_model.specs.declared.method.Body.{Body}
 use Rattle.il_model.specs.declared.method.MethodDef.{MethodDef}
 use Rattle.il_model.specs.declared.member.MRef.{MRef}
 use Rattle.il_model.specs.declared.layout.MethodTree.{MethodTree}
-use Rattle.il_model.specs.Find.{class_of}
 use Rattle.il_model.specs.Found.{method_at, method_found}
 use Rattle.il_model.specs.Entries.{has_slot}
 use Rattle.il_model.specs.Kinds.{is_reference, is_value}
 use Rattle.il_model.specs.Layouts.{words_of, instance_words_of}
-use Rattle.il_model.specs.Slots.{slots_of, implementation_of}
+use Rattle.il_model.specs.Slots.{slots_of, implementation_of, own_methods_of, is_interface}
 use Rattle.interaction.specs.Process.{Next, Ask, Over, Stuck}
 use Rattle.store_object.specs.declared.request.Cause.TheVariants as cause
 use Rattle.store_object.specs.declared.request.Request.TheVariants as ask
 use Rattle.cil_meaning.specs.Values.{Reference, Struct, Pointer, InFresh, InObject, Value, Plain, Managed}
 use Rattle.cil_meaning.specs.Naming.{put_type}
-use Rattle.cil_meaning.specs.Frames.{Awaited, Nothing, Result, Object, Built, Frame, Places, Frames, innermost, outer, with_innermost, with_fresh}
+use Rattle.cil_meaning.specs.Frames.{Awaited, Nothing, Result, Object, Built, Frame, Places, innermost, outer, with_innermost, with_fresh}
 use Rattle.cil_meaning.specs.Types.{zero_of, argument_places, local_places, kind_of}
 use Rattle.cil_meaning.specs.Replies.{Left, on_object, on_done, on_stopped}
 use Rattle.cil_meaning.specs.Mentions.{settles_slot}
@@ -36,25 +31,14 @@ most_frames = 1024
 
 -- The slot of a method ---------------------------------------------------
 
-abbrev pub is_interface_kind : ClassKind → Bool
-is_interface_kind kind.Plain = false
-is_interface_kind kind.Abstract = false
-is_interface_kind kind.Interface = true
-is_interface_kind kind.Struct = false
-is_interface_kind kind.Delegate = false
-
--- the place of a method among its class's own
-abbrev pub ordinal_of : ClassDef → ℕ → Option ℕ
-ordinal_of c number = position (λ own. own == number) c.methods
-
 -- Which slot of an exact type a call goes to, by the class and the method that the call names: of an interface the slot
 -- that implements the method, and of a class the one in which the method stands, which derived classes keep.
-abbrev pub slot_by_kind : Program → (is_interface : Bool) → (exact class : TExpr) → ClassDef → ℕ → Option ℕ
-slot_by_kind p true exact class c number = option_and_then (λ ordinal. implementation_of p exact class ordinal) (ordinal_of c number)
-slot_by_kind p false exact class c number = position (λ (m : MethodTree). m.method == number) (slots_of p class)
+abbrev pub slot_by : Program → (names_interface : Bool) → (exact class : TExpr) → ℕ → Option ℕ
+slot_by p true exact class number = option_and_then (λ ordinal. implementation_of p exact class ordinal) (position (λ own. own == number) (own_methods_of p class))
+slot_by p false exact class number = position (λ (m : MethodTree). m.method == number) (slots_of p class)
 
 abbrev pub slot_found : Program → (exact class : TExpr) → ℕ → Option ℕ
-slot_found p exact class number = option_and_then (λ c. slot_by_kind p (is_interface_kind c.kind) exact class c number) (class_of p class)
+slot_found p exact class number = slot_by p (is_interface p class) exact class number
 
 -- the object that a method in a slot takes: a struct's takes the pointer to word 0 of the box
 abbrev pub object_for : (is_struct : Bool) → ℕ → Value

@@ -1,5 +1,5 @@
 -- The frames of one thread, innermost first, and beside them what their places hold. After ECMA-335, Partition I; the form is this project's own.
-use Rattle.std.specs.Prelude.{ℕ, zero, suc, List, [], ◌∷◌, length, Option, Some, None, if◌then◌else◌, ◌==◌, slice_set}
+use Rattle.std.specs.Prelude.{ℕ, List, [], ◌∷◌, length, Option, Some, None, if◌then◌else◌, ◌==◌, slice_set}
 use Rattle.il_model.specs.declared.layout.MethodTree.{MethodTree}
 use Rattle.cil_meaning.specs.Values.{Value}
 

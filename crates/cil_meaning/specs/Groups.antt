@@ -5,7 +5,6 @@ use Rattle.il_model.specs.declared.member.MRef.{MRef}
 use Rattle.il_model.specs.declared.member.FRef.{FRef}
 use Rattle.il_model.specs.declared.op.Op.{Op}
 use Rattle.il_model.specs.declared.op.Op.TheVariants as op
-use Rattle.il_model.specs.Library.{plain}
 use Rattle.store_object.specs.declared.request.Form.{Form}
 use Rattle.store_object.specs.declared.request.Form.TheVariants as printed
 use Rattle.cil_meaning.specs.Words.{int32_word, int64_word}

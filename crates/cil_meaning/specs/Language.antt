@@ -1,5 +1,5 @@
 -- CIL as a language of processes: its talk, its legal histories, and what it gives the law that no process is stuck. This project's own.
-use Rattle.std.specs.Prelude.{ℕ, List}
+use Rattle.std.specs.Prelude.{List}
 use Rattle.type_tree.specs.declared.tree.TExpr.{TExpr}
 use Rattle.il_model.specs.declared.program.Program.{Program}
 use Rattle.interaction.specs.declared.history.Event.{Event}

@@ -1,5 +1,5 @@
 -- The calls of the library that have no body: printing, one word read and written at once, names of types, threads. This project's own.
-use Rattle.std.specs.Prelude.{ℕ, ◌==◌, nat_lt, Bool, true, false, if◌then◌else◌, List, [], ◌∷◌, slice_get}
+use Rattle.std.specs.Prelude.{ℕ, ◌==◌, nat_lt, if◌then◌else◌, List, [], ◌∷◌, slice_get}
 use Rattle.il_model.specs.declared.program.Program.{Program}
 use Rattle.interaction.specs.Process.{Next, Ask, Stuck}
 use Rattle.store_object.specs.declared.place.Place.{Place}

@@ -1,15 +1,15 @@
 -- The process of one thread: what is left of each instruction, once, as a tree. ECMA-335, Partition III; entries, checks and requests in their order are this project's own.
-use Rattle.std.specs.Prelude.{ℕ, List, [], ◌∷◌, Option, Some, None}
+use Rattle.std.specs.Prelude.{ℕ, List, [], ◌∷◌}
 use Rattle.il_model.specs.declared.program.Program.{Program}
 use Rattle.il_model.specs.declared.op.Op.{Op}
 use Rattle.il_model.specs.Found.{method_at}
 use Rattle.il_model.specs.Entries.{entries_of}
-use Rattle.interaction.specs.Process.{Ask, Stuck}
+use Rattle.interaction.specs.Process.{Stuck}
 use Rattle.cil_meaning.specs.Values.{Value}
 use Rattle.cil_meaning.specs.Frames.{Frame, Places, Frames}
 use Rattle.cil_meaning.specs.Replies.{Left}
 use Rattle.cil_meaning.specs.Mentions.{settles_all}
-use Rattle.cil_meaning.specs.Search.{Thrown, null_reference, searches}
+use Rattle.cil_meaning.specs.Search.{null_reference, searches}
 use Rattle.cil_meaning.specs.Site.{Site, frames_of, op_at, throws}
 use Rattle.cil_meaning.specs.Pieces.{Exact, Text, Numbered, given, pops, as_reference, not_null, types}
 use Rattle.cil_meaning.specs.Groups.{Group, OnStack, OnPlaces, OnNumbers, OnBranches, OnCalls, OnMembers, OnArrays, OnBoxes, OnThrow, OnLibrary, Excluded, group_of}

@@ -7,9 +7,9 @@ use Rattle.il_model.specs.Found.{field_found}
 use Rattle.il_model.specs.Entries.{field_type}
 use Rattle.il_model.specs.Layouts.{words_of}
 use Rattle.interaction.specs.Process.{Stuck}
-use Rattle.cil_meaning.specs.Values.{Pointer, Null, InFrame, InFresh, InObject, InStatic, Value, Plain, Managed, Kind, shifted, is_reference_word, is_struct}
+use Rattle.cil_meaning.specs.Values.{Pointer, Null, InFrame, InFresh, InObject, InStatic, Value, Plain, Managed, shifted, is_reference_word, is_struct}
 use Rattle.cil_meaning.specs.Naming.{put_type}
-use Rattle.cil_meaning.specs.Types.{kind_of, kept}
+use Rattle.cil_meaning.specs.Types.{kind_of}
 use Rattle.cil_meaning.specs.Replies.{Left}
 use Rattle.cil_meaning.specs.Search.{null_reference}
 use Rattle.cil_meaning.specs.Site.{Site, goes, goes_with, throws}

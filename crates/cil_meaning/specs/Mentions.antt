@@ -13,17 +13,13 @@ use Rattle.il_model.specs.declared.layout.Limit.{Limit}
 use Rattle.il_model.specs.declared.layout.Limit.TheVariants as limit
 use Rattle.il_model.specs.declared.layout.MethodTree.{MethodTree}
 use Rattle.il_model.specs.Found.{method_at}
-use Rattle.il_model.specs.Admission.{limit_of}
+use Rattle.il_model.specs.Admission.{most_positions, limit_of}
 use Rattle.interaction.specs.Process.{Settle, Ask}
 use Rattle.store_object.specs.declared.request.Cause.{Cause}
 use Rattle.store_object.specs.declared.request.Cause.TheVariants as cause
 use Rattle.store_object.specs.declared.request.Request.TheVariants as ask
-use Rattle.cil_meaning.specs.Naming.{Mention, OfEntry, OfClause, OfSlot, put_type, put_entry}
+use Rattle.cil_meaning.specs.Naming.{OfEntry, OfClause, OfSlot, put_type, put_entry}
 use Rattle.cil_meaning.specs.Replies.{Left, on_stopped}
-
--- the most positions of a method with its class and its arguments
-abbrev pub most_positions : ℕ
-most_positions = 256
 
 -- of the limits of many types the one that counts: Positions, wherever it stands
 abbrev pub worse : Option Limit → Option Limit → Option Limit

@@ -1,10 +1,9 @@
 -- Where the fields of a class lie. This project's own.
-use Rattle.std.specs.Prelude.{ℕ, ◌+◌, ◌-◌, Bool, not, List, length, take, filter, Option, option_and_then, slice_get}
+use Rattle.std.specs.Prelude.{ℕ, ◌+◌, ◌-◌, not, List, length, take, filter, Option, option_and_then, slice_get}
 use Rattle.type_tree.specs.declared.tree.TExpr.{TExpr}
 use Rattle.il_model.specs.declared.program.Program.{Program}
 use Rattle.il_model.specs.declared.class.ClassDef.{ClassDef}
 use Rattle.il_model.specs.declared.class.FieldDef.{FieldDef}
-use Rattle.il_model.specs.declared.layout.Layout.{Layout}
 use Rattle.il_model.specs.Find.{class_of}
 use Rattle.il_model.specs.Layouts.{layout_of}
 

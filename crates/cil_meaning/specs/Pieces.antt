@@ -1,17 +1,17 @@
 -- The pieces that instructions are made of: values taken from the stack, words read and written where a pointer leads, and exact types. This project's own.
-use Rattle.std.specs.Prelude.{ℕ, zero, suc, ◌+◌, ◌-◌, ◌==◌, ◌&&◌, nat_lt, nat_le, if◌then◌else◌, List, [], ◌∷◌, map, length, Option, Some, None, slice_get}
+use Rattle.std.specs.Prelude.{ℕ, zero, suc, ◌+◌, ◌-◌, ◌==◌, ◌&&◌, nat_lt, nat_le, if◌then◌else◌, List, [], ◌∷◌, length, Option, Some, None, slice_get}
 use Rattle.type_tree.specs.declared.tree.TExpr.{TExpr}
 use Rattle.il_model.specs.declared.program.Program.{Program}
 use Rattle.il_model.specs.declared.method.PType.{PType}
 use Rattle.il_model.specs.declared.method.PType.TheVariants as ptype
 use Rattle.il_model.specs.Layouts.{words_of}
 use Rattle.il_model.specs.Library.{plain}
-use Rattle.interaction.specs.Process.{Next, Spell, Ask, Stuck}
+use Rattle.interaction.specs.Process.{Spell, Ask, Stuck}
 use Rattle.store_object.specs.declared.place.Place.{Place}
 use Rattle.store_object.specs.declared.place.Place.TheVariants as at
 use Rattle.store_object.specs.declared.request.Request.TheVariants as ask
 use Rattle.cil_meaning.specs.Words.{cut, spliced}
-use Rattle.cil_meaning.specs.Values.{Kind, Reference, Struct, Native, Pointer, Null, InFrame, InFresh, InObject, InStatic, Value, Plain, Managed, same_kind, is_reference_word}
+use Rattle.cil_meaning.specs.Values.{Kind, Native, Pointer, Null, InFrame, InFresh, InObject, InStatic, Value, Plain, Managed, same_kind, is_reference_word}
 use Rattle.cil_meaning.specs.Naming.{strings_from, names_from}
 use Rattle.cil_meaning.specs.Frames.{Places, places_at, with_places, with_held, with_fresh}
 use Rattle.cil_meaning.specs.Types.{kind_of, kept}

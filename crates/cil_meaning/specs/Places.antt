@@ -1,5 +1,5 @@
 -- Values on the stack, arguments and locals. ECMA-335, Partition III.
-use Rattle.std.specs.Prelude.{ℕ, ◌+◌, List, [], ◌∷◌, length, Option, Some, None, option_map, slice_get}
+use Rattle.std.specs.Prelude.{ℕ, ◌+◌, List, ◌∷◌, length, Option, option_map, slice_get}
 use Rattle.il_model.specs.declared.program.Program.{Program}
 use Rattle.il_model.specs.declared.method.PType.{PType}
 use Rattle.il_model.specs.declared.method.PType.TheVariants as ptype

@@ -1,5 +1,5 @@
 -- What a process does with a reply. A reply of another kind than the request gets has no rule. This project's own.
-use Rattle.std.specs.Prelude.{ℕ, Bool, true, false}
+use Rattle.std.specs.Prelude.{ℕ, true, false}
 use Rattle.type_tree.specs.declared.tree.TExpr.{TExpr}
 use Rattle.interaction.specs.Process.{Act, Over, Stuck}
 use Rattle.store_object.specs.declared.request.Request.{Request}

@@ -10,9 +10,9 @@ use Rattle.il_model.specs.declared.layout.MethodTree.{MethodTree}
 use Rattle.il_model.specs.Found.{method_at}
 use Rattle.interaction.specs.Process.{Next, Settle, Spell, Ask, Over, Stuck}
 use Rattle.store_object.specs.declared.request.Request.TheVariants as ask
-use Rattle.cil_meaning.specs.Values.{Value, Plain, Reference}
+use Rattle.cil_meaning.specs.Values.{Plain, Reference}
 use Rattle.cil_meaning.specs.Naming.{OfFault, put_type}
-use Rattle.cil_meaning.specs.Frames.{Frame, Places, Frames, Nothing, innermost, outer, with_fresh}
+use Rattle.cil_meaning.specs.Frames.{Frame, Places, Frames, Nothing, outer, with_fresh}
 use Rattle.cil_meaning.specs.Types.{passes_as}
 use Rattle.cil_meaning.specs.Replies.{Left, on_object, on_done}
 use Rattle.cil_meaning.specs.Mentions.{settles_clause}

@@ -13,7 +13,6 @@ use Rattle.store_object.specs.declared.request.Form.TheVariants as form
 use Rattle.store_object.specs.declared.request.Request.{Request}
 use Rattle.store_object.specs.declared.request.Request.TheVariants as ask
 use Rattle.store_object.specs.declared.reply.Reply.{Reply}
-use Rattle.store_object.specs.Store.{Store}
 use Rattle.store_object.specs.Replay.{replayed}
 use Rattle.cil_meaning.specs.Words.{signed}
 use Rattle.cil_meaning.specs.Naming.{Mention, strings_from, names_from}

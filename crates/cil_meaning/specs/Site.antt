@@ -1,13 +1,11 @@
 -- Where an instruction stands, and the ways on from it. This project's own.
-use Rattle.std.specs.Prelude.{ℕ, suc, List, [], ◌∷◌, length, Option, option_and_then, slice_get}
+use Rattle.std.specs.Prelude.{ℕ, suc, List, ◌∷◌, length, Option, option_and_then, slice_get}
 use Rattle.il_model.specs.declared.program.Program.{Program}
 use Rattle.il_model.specs.declared.method.Body.{Body}
 use Rattle.il_model.specs.declared.method.MethodDef.{MethodDef}
-use Rattle.il_model.specs.declared.layout.MethodTree.{MethodTree}
 use Rattle.il_model.specs.declared.op.Op.{Op}
-use Rattle.il_model.specs.Found.{method_at}
 use Rattle.interaction.specs.Process.{Next}
-use Rattle.cil_meaning.specs.Values.{Value, Kind, Plain}
+use Rattle.cil_meaning.specs.Values.{Value}
 use Rattle.cil_meaning.specs.Frames.{Frame, Places, Frames, Nothing}
 use Rattle.cil_meaning.specs.Replies.{Left}
 use Rattle.cil_meaning.specs.Search.{raises}

@@ -1,5 +1,5 @@
 -- What the process asks of types: the kind and words of a value, what a place keeps of it, and what casts pass. After ECMA-335, Partition I; words are this project's own.
-use Rattle.std.specs.Prelude.{ℕ, ◌==◌, ◌%◌, Bool, true, false, ◌&&◌, ◌||◌, List, [], ◌∷◌, ◌++◌, map, length, replicate, if◌then◌else◌, Option, Some, None, flat_map, option_to_list}
+use Rattle.std.specs.Prelude.{ℕ, ◌%◌, Bool, true, false, ◌&&◌, ◌||◌, List, [], ◌∷◌, map, replicate, if◌then◌else◌, flat_map, option_to_list}
 use Rattle.type_tree.specs.declared.tree.TExpr.{TExpr}
 use Rattle.type_tree.specs.declared.tree.TNode.{TNode}
 use Rattle.type_tree.specs.declared.tree.TNode.TheVariants.{Node, ClassVar, MethodVar}
@@ -14,9 +14,9 @@ use Rattle.il_model.specs.declared.method.PType.TheVariants as ptype
 use Rattle.il_model.specs.declared.layout.MethodTree.{MethodTree}
 use Rattle.il_model.specs.Find.{takes_object}
 use Rattle.il_model.specs.Kinds.{is_value}
-use Rattle.il_model.specs.Assignable.{is_assignable}
+use Rattle.il_model.specs.Assignable.{is_assignable, is_object}
 use Rattle.il_model.specs.Layouts.{words_of}
-use Rattle.cil_meaning.specs.Values.{Kind, Int32, Int64, Native, Reference, Struct, Pointer, Null, Value, Plain, Managed}
+use Rattle.cil_meaning.specs.Values.{Kind, Int32, Int64, Native, Reference, Struct, Null, Value, Plain, Managed}
 use Rattle.cil_meaning.specs.Naming.{put_type}
 
 abbrev pub kind_of_class : (is_value_type : Bool) → Kind
@@ -51,41 +51,10 @@ is_bool_top (MethodVar n) = false
 abbrev pub is_bool : TExpr → Bool
 is_bool t = is_bool_top (top_of t)
 
-abbrev pub is_object_head : Head → Bool
-is_object_head head.Int32 = false
-is_object_head head.Int64 = false
-is_object_head head.Bool = false
-is_object_head head.Vector = false
-is_object_head (head.Class number) = number == 0
-
-abbrev pub is_object_top : TNode TExpr → Bool
-is_object_top (Node h parts) = is_object_head h
-is_object_top (ClassVar n) = false
-is_object_top (MethodVar n) = false
-
--- the base of all classes
-abbrev pub is_object : TExpr → Bool
-is_object t = is_object_top (top_of t)
-
 -- Whether an object of the exact type passes where the other is asked for. An object whose exact type is a value type is a box,
 -- and boxes pass as object.
 abbrev pub passes_as : Program → (exact asked : TExpr) → Bool
 passes_as p exact asked = is_assignable p exact asked || (is_value p exact && is_object asked)
-
-abbrev pub element_of_top : TNode TExpr → Option TExpr
-element_of_top (Node head.Vector (t ∷ [])) = Some t
-element_of_top (Node head.Vector []) = None
-element_of_top (Node head.Vector (t ∷ u ∷ ts)) = None
-element_of_top (Node head.Int32 parts) = None
-element_of_top (Node head.Int64 parts) = None
-element_of_top (Node head.Bool parts) = None
-element_of_top (Node (head.Class number) parts) = None
-element_of_top (ClassVar n) = None
-element_of_top (MethodVar n) = None
-
--- the type of a vector's elements
-abbrev pub element_of : TExpr → Option TExpr
-element_of t = element_of_top (top_of t)
 
 -- Places ------------------------------------------------------------------
 
