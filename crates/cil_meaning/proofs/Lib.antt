@@ -1,1 +1,4 @@
+mod PlainTypes
+mod Steps
 mod NumberPrograms
+mod TypedPrograms

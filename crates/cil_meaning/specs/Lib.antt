@@ -23,3 +23,4 @@ pub mod Threads
 pub mod Language
 pub mod Shown
 pub mod SmallPrograms
+pub mod TypedPrograms

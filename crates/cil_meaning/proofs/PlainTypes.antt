@@ -1,0 +1,85 @@
+-- Facts on types without arguments that examples cite.
+use Rattle.std.proofs.Common.{◌≡◌, ℕ, zero, suc, Bool, true, false, List, [], ◌∷◌, ◌++◌, Option, Some, None, slice_get, ◌*◌, flat_map, refl, ap, ◌∙◌}
+use Rattle.std.specs.List.{list_any}
+use Rattle.type_tree.specs.declared.tree.Head.TheVariants as head
+use Rattle.type_tree.specs.declared.tree.TExpr.{TExpr}
+use Rattle.type_tree.specs.Tree.{node, top_of}
+use Rattle.type_tree.specs.Substitution.{substituted}
+use Rattle.type_tree.specs.Positions.{positions_of}
+use Rattle.type_tree.specs.Same.{is_same}
+use Rattle.type_tree.proofs.TreeLemmas.{top_of-tree_of}
+use Rattle.type_tree.proofs.SubstitutionLemmas.{substituted-node}
+use Rattle.type_tree.proofs.PositionsLemmas.{positions_of-node}
+use Rattle.il_model.proofs.TreesLemmas.{is_same-node}
+use Rattle.il_model.specs.declared.class.ClassDef.{ClassDef}
+use Rattle.il_model.specs.declared.program.Program.{Program}
+use Rattle.il_model.specs.Library.{plain}
+use Rattle.il_model.specs.Kinds.{is_struct_kind, is_value}
+use Rattle.il_model.specs.Trees.{trees_in}
+use Rattle.il_model.specs.Assignable.{is_assignable_flat, assignable_within, is_assignable}
+use Rattle.il_model.specs.Admission.{has_count, steps_of, closure_within, closure_of, is_large, is_wide, limited_trees_of, limit_among, limit_of}
+use Rattle.il_model.specs.Layouts.{most_trees}
+use Rattle.cil_meaning.specs.Types.{passes_as}
+
+pub positions_plain : (c : ℕ) → positions_of (plain c) ≡ 1
+positions_plain c = positions_of-node (head.Class c) []
+
+pub substituted_plain : (as' bs : List TExpr) (c : ℕ) → substituted as' bs (plain c) ≡ plain c
+substituted_plain as' bs c = substituted-node as' bs (head.Class c) []
+
+-- a type that the test of equality finds equal to itself passes as itself
+flat_self : (p : Program) (t : TExpr) → is_same t t ≡ true → is_assignable_flat p t t ≡ true
+flat_self p t e = rw e refl
+
+within_self : (p : Program) (levels : ℕ) (t : TExpr) → is_same t t ≡ true → assignable_within p levels t t ≡ true
+within_self p zero t e = flat_self p t e
+within_self p (suc levels) t e = rw (flat_self p t e) refl
+
+pub passes_self : (p : Program) (t : TExpr) → is_same t t ≡ true → passes_as p t t ≡ true
+passes_self p t e = rw (within_self p (positions_of t) t e) refl
+
+-- one step of a closure, where the class has a base alone
+pub steps_plain : (p : Program) (c b : ℕ) (d e : ClassDef) → slice_get p.classes c ≡ Some d → d.base ≡ Some (plain b) → d.interfaces ≡ [] → d.fields ≡ [] →
+    slice_get p.classes b ≡ Some e → e.vars ≡ [] → steps_of p (plain c) ≡ plain b ∷ []
+steps_plain p c b d e is base interfaces fields other vars = simp (top_of-tree_of, is, base, interfaces, fields, substituted-node, other, vars) refl
+
+pub steps_root : (p : Program) (c : ℕ) (d : ClassDef) → slice_get p.classes c ≡ Some d → d.base ≡ None → d.interfaces ≡ [] → d.fields ≡ [] → steps_of p (plain c) ≡ []
+steps_root p c d is base interfaces fields = simp (top_of-tree_of, is, base, interfaces, fields) refl
+
+-- a test that no tree of a closure passes
+append-nil : {A : Type 0} (xs : List A) → xs ++ [] ≡ xs
+append-nil [] = refl
+append-nil (x ∷ xs) = ap (λ ys. x ∷ ys) (append-nil xs)
+
+pub none_root : (test : TExpr → Bool) (p : Program) (t : TExpr) → steps_of p t ≡ [] → test t ≡ false → (levels : ℕ) → list_any test (closure_within p levels t) ≡ false
+none_root test p t steps fails zero = rw fails refl
+none_root test p t steps fails (suc levels) = rw (fails, steps) refl
+
+pub none_above : (test : TExpr → Bool) (p : Program) (t u : TExpr) → steps_of p t ≡ u ∷ [] → test t ≡ false → ((levels : ℕ) → list_any test (closure_within p levels u) ≡ false) →
+    (levels : ℕ) → list_any test (closure_within p levels t) ≡ false
+none_above test p t u steps fails rest zero = rw fails refl
+none_above test p t u steps fails rest (suc levels) = rw (fails, steps, append-nil (closure_within p levels u)) (rest levels)
+
+pub value_plain : (p : Program) (c : ℕ) (d : ClassDef) → slice_get p.classes c ≡ Some d → is_struct_kind d.kind ≡ false → is_value p (plain c) ≡ false
+value_plain p c d is no_struct = simp (top_of-tree_of, is, no_struct) refl
+
+pub large_plain : (c : ℕ) → is_large (plain c) ≡ false
+large_plain c = rw (positions_plain c) refl
+
+pub trees_plain : (c : ℕ) → trees_in (plain c) ≡ plain c ∷ []
+trees_plain c = simp (positions_plain c, top_of-tree_of) refl
+
+limited_plain : (p : Program) (c : ℕ) → limited_trees_of p (plain c) ≡ closure_of p (plain c)
+limited_plain p c = ap (flat_map (closure_of p)) (trees_plain c) ∙ append-nil (closure_of p (plain c))
+
+none_among : (p : Program) (ts : List TExpr) → list_any is_large ts ≡ false → list_any (is_wide p) ts ≡ false → limit_among p ts ≡ None
+none_among p ts large wide = rw (large, wide) refl
+
+-- a class without arguments is admitted where no tree of its closure is large or wide
+pub admitted_plain : (p : Program) (c : ℕ) → ((levels : ℕ) → list_any is_large (closure_within p levels (plain c)) ≡ false) →
+    ((levels : ℕ) → list_any (is_wide p) (closure_within p levels (plain c)) ≡ false) → limit_of p (plain c) ≡ None
+admitted_plain p c large wide = ap (limit_among p) (limited_plain p c) ∙ none_among p (closure_of p (plain c)) (large (most_trees * positions_of (plain c))) (wide (most_trees * positions_of (plain c)))
+
+-- a class that is no struct is no wide value
+pub wide_plain : (p : Program) (c : ℕ) (d : ClassDef) → slice_get p.classes c ≡ Some d → is_struct_kind d.kind ≡ false → is_wide p (plain c) ≡ false
+wide_plain p c d is no_struct = rw (value_plain p c d is no_struct) refl

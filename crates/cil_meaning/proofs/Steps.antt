@@ -1,0 +1,28 @@
+-- How a talk goes on past what does not compute by itself: limits, tests, look-ups.
+use Rattle.std.proofs.Common.{◌≡◌, ℕ, Bool, true, false, List, Option, Some, None, if◌then◌else◌, subst, sym}
+use Rattle.type_tree.specs.declared.tree.TExpr.{TExpr}
+use Rattle.il_model.specs.declared.entry.Entry.{Entry}
+use Rattle.il_model.specs.declared.layout.Limit.{Limit}
+use Rattle.il_model.specs.declared.layout.MethodTree.{MethodTree}
+use Rattle.il_model.specs.declared.program.Program.{Program}
+use Rattle.interaction.specs.Process.{Naming, Exchange}
+use Rattle.store_object.specs.declared.request.Request.{Request}
+use Rattle.store_object.specs.declared.reply.Reply.{Reply}
+use Rattle.cil_meaning.specs.Naming.{Mention}
+use Rattle.cil_meaning.specs.Replies.{Left}
+use Rattle.cil_meaning.specs.Mentions.{within, settles_all}
+use Rattle.cil_meaning.specs.Pieces.{given}
+use Rattle.cil_meaning.specs.Language.{Talk}
+
+module _ (p : Program) where
+  pub within_limits : {n : Naming Mention TExpr} {q left : Left} {es : List (Exchange Request Reply)} (l : Option Limit) → l ≡ None → Talk p n left es q → Talk p n (within l left) es q
+  within_limits {n = n} {q = q} {left = left} {es = es} l none t = subst (λ x. Talk p n (within x left) es q) (sym none) t
+
+  pub where_true : {n : Naming Mention TExpr} {q : Left} {es : List (Exchange Request Reply)} (left other : Left) (b : Bool) → b ≡ true → Talk p n left es q → Talk p n (if b then left else other) es q
+  where_true {n = n} {q = q} {es = es} left other b is t = subst (λ x. Talk p n (if x then left else other) es q) (sym is) t
+
+  pub where_false : {n : Naming Mention TExpr} {q : Left} {es : List (Exchange Request Reply)} (left other : Left) (b : Bool) → b ≡ false → Talk p n other es q → Talk p n (if b then left else other) es q
+  where_false {n = n} {q = q} {es = es} left other b is t = subst (λ x. Talk p n (if x then left else other) es q) (sym is) t
+
+  pub where_given : {n : Naming Mention TExpr} {q : Left} {es : List (Exchange Request Reply)} {A : Type 0} (k : A → Left) (o : Option A) (a : A) → o ≡ Some a → Talk p n (k a) es q → Talk p n (given o k) es q
+  where_given {n = n} {q = q} {es = es} k o a is t = subst (λ x. Talk p n (given x k) es q) (sym is) t

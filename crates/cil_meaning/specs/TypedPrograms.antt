@@ -1,0 +1,74 @@
+-- Small programs with types, and what their histories must be, written by hand. This project's own.
+use Rattle.std.specs.Prelude.{ℕ, ◌+◌, ◌-◌, ◌==◌, nat_le, nat_lt, ◌&&◌, true, false, if◌then◌else◌, pos, List, [], ◌∷◌, ◌++◌, Option, Some, None, codes}
+use Rattle.type_tree.specs.declared.tree.Head.{Head}
+use Rattle.type_tree.specs.declared.tree.Head.TheVariants as head
+use Rattle.type_tree.specs.declared.tree.TExpr.{TExpr}
+use Rattle.type_tree.specs.declared.tree.TNode.{TNode}
+use Rattle.type_tree.specs.declared.tree.TNode.TheVariants.{Node, ClassVar, MethodVar}
+use Rattle.type_tree.specs.Tree.{node, top_of}
+use Rattle.il_model.specs.declared.class.ClassKind.TheVariants as kind
+use Rattle.il_model.specs.declared.class.ClassDef.{ClassDef}
+use Rattle.il_model.specs.declared.class.FieldDef.{FieldDef}
+use Rattle.il_model.specs.declared.entry.Entry.{Entry}
+use Rattle.il_model.specs.declared.entry.Entry.TheVariants as entry
+use Rattle.il_model.specs.declared.member.MRef.{MRef}
+use Rattle.il_model.specs.declared.member.FRef.{FRef}
+use Rattle.il_model.specs.declared.method.Shape.TheVariants as shape
+use Rattle.il_model.specs.declared.method.Sort.TheVariants as sort
+use Rattle.il_model.specs.declared.method.Clause.{Clause}
+use Rattle.il_model.specs.declared.method.MethodDef.{MethodDef}
+use Rattle.il_model.specs.declared.op.Op.{Op}
+use Rattle.il_model.specs.declared.op.Op.TheVariants as op
+use Rattle.il_model.specs.declared.program.Program.{Program}
+use Rattle.il_model.specs.Library.{plain, library_classes, library_methods}
+use Rattle.interaction.specs.Process.{Naming}
+use Rattle.store_object.specs.declared.place.Place.TheVariants as at
+use Rattle.store_object.specs.declared.request.Request.TheVariants as ask
+use Rattle.store_object.specs.declared.reply.Reply.TheVariants as says
+use Rattle.cil_meaning.specs.Naming.{Mention, OfEntry, OfClause, OfSlot, OfFault}
+use Rattle.cil_meaning.specs.SmallPrograms.{History, main_method, program_of, by_main, prints}
+
+abbrev pub int32 : TExpr
+int32 = node head.Int32 []
+
+-- the number of a type without arguments: 2 to 4 of the scalars, and 5 more than its class's
+abbrev pub number_of_head : Head → ℕ
+number_of_head head.Int32 = 2
+number_of_head head.Int64 = 3
+number_of_head head.Bool = 4
+number_of_head head.Vector = 100
+number_of_head (head.Class number) = number + 5
+
+abbrev pub number_of_top : TNode TExpr → ℕ
+number_of_top (Node h parts) = number_of_head h
+number_of_top (ClassVar n) = 0
+number_of_top (MethodVar n) = 0
+
+abbrev pub number_of_entry : Entry → ℕ
+number_of_entry (entry.Kind t) = number_of_top (top_of t)
+number_of_entry (entry.Method number class args) = number + 200
+number_of_entry (entry.Size t) = 1
+number_of_entry (entry.Extent t) = 1
+number_of_entry (entry.Offset t place) = 1
+number_of_entry (entry.Slot number) = 1
+
+abbrev pub number_of : Mention → ℕ
+number_of (OfEntry m e) = number_of_entry e
+number_of (OfClause m e) = number_of_entry e
+number_of (OfSlot t slot) = slot + 200
+number_of (OfFault class) = class + 5
+
+abbrev pub classes_named : Naming Mention TExpr
+classes_named = record {
+  value_of = λ m. Some (number_of m);
+  tree_at = λ i. if nat_le 5 i && nat_lt i 100 then Some (plain (i - 5)) else None;
+}
+
+-- An exception that is caught: 1 / 0 in a try whose clause catches division by zero; its handler prints 9.
+abbrev pub catches : Program
+catches = program_of [] (op.LdcI4 (pos 1) ∷ op.LdcI4 (pos 0) ∷ op.Div ∷ op.Pop ∷ op.Leave 8 ∷ op.Pop ∷ op.LdcI4 (pos 9) ∷ op.WriteLineInt32 ∷ op.Ret ∷ [])
+    (record { from = 0; to = 5; sort = sort.Catch (plain 5); handler = 5; end = 8 } ∷ [])
+
+abbrev pub catches_history : History
+catches_history = by_main (ask.Alloc 10 0 0) (says.Object 1) ∷ prints 9 ∷ by_main ask.Finish says.Done ∷ []
+
