@@ -2,3 +2,4 @@ mod PlainTypes
 mod Steps
 mod NumberPrograms
 mod TypedPrograms
+mod CallProgram

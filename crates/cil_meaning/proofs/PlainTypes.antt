@@ -15,6 +15,7 @@ use Rattle.il_model.specs.declared.class.ClassDef.{ClassDef}
 use Rattle.il_model.specs.declared.program.Program.{Program}
 use Rattle.il_model.specs.Library.{plain}
 use Rattle.il_model.specs.Kinds.{is_struct_kind, is_value}
+use Rattle.il_model.specs.Find.{class_of}
 use Rattle.il_model.specs.Trees.{trees_in}
 use Rattle.il_model.specs.Assignable.{is_assignable_flat, assignable_within, is_assignable}
 use Rattle.il_model.specs.Admission.{has_count, steps_of, closure_within, closure_of, is_large, is_wide, limited_trees_of, limit_among, limit_of}
@@ -83,3 +84,6 @@ admitted_plain p c large wide = ap (limit_among p) (limited_plain p c) ∙ none_
 -- a class that is no struct is no wide value
 pub wide_plain : (p : Program) (c : ℕ) (d : ClassDef) → slice_get p.classes c ≡ Some d → is_struct_kind d.kind ≡ false → is_wide p (plain c) ≡ false
 wide_plain p c d is no_struct = rw (value_plain p c d is no_struct) refl
+
+pub class_plain : (p : Program) (c : ℕ) (d : ClassDef) → slice_get p.classes c ≡ Some d → class_of p (plain c) ≡ Some d
+class_plain p c d is = rw (top_of-tree_of) is

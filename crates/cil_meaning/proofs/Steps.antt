@@ -1,5 +1,5 @@
 -- How a talk goes on past what does not compute by itself: limits, tests, look-ups.
-use Rattle.std.proofs.Common.{◌≡◌, ℕ, Bool, true, false, List, Option, Some, None, if◌then◌else◌, subst, sym}
+use Rattle.std.proofs.Common.{◌≡◌, ℕ, Bool, true, false, List, [], Option, Some, None, if◌then◌else◌, subst, sym}
 use Rattle.type_tree.specs.declared.tree.TExpr.{TExpr}
 use Rattle.il_model.specs.declared.entry.Entry.{Entry}
 use Rattle.il_model.specs.declared.layout.Limit.{Limit}
@@ -12,6 +12,17 @@ use Rattle.cil_meaning.specs.Naming.{Mention}
 use Rattle.cil_meaning.specs.Replies.{Left}
 use Rattle.cil_meaning.specs.Mentions.{within, settles_all}
 use Rattle.cil_meaning.specs.Pieces.{given}
+use Rattle.il_model.specs.declared.op.Op.{Op}
+use Rattle.std.specs.Prelude.{unwrap_or}
+use Rattle.il_model.specs.Found.{method_at}
+use Rattle.il_model.specs.Library.{thread_entry}
+use Rattle.il_model.specs.Entries.{entries_of}
+use Rattle.cil_meaning.specs.Values.{Value}
+use Rattle.cil_meaning.specs.Site.{Site, moved}
+use Rattle.cil_meaning.specs.Groups.{group_of}
+use Rattle.cil_meaning.specs.Meaning.{does, begins}
+use Rattle.cil_meaning.specs.Calls.{first_frame}
+use Rattle.cil_meaning.specs.Threads.{method_tree, main_frames}
 use Rattle.cil_meaning.specs.Language.{Talk}
 
 module _ (p : Program) where
@@ -26,3 +37,12 @@ module _ (p : Program) where
 
   pub where_given : {n : Naming Mention TExpr} {q : Left} {es : List (Exchange Request Reply)} {A : Type 0} (k : A → Left) (o : Option A) (a : A) → o ≡ Some a → Talk p n (k a) es q → Talk p n (given o k) es q
   where_given {n = n} {q = q} {es = es} k o a is t = subst (λ x. Talk p n (given x k) es q) (sym is) t
+
+  -- an instruction whose entries are these
+  pub where_entries : {n : Naming Mention TExpr} {q : Left} {es : List (Exchange Request Reply)} (s : Site) (o : Op) (l : List Entry) → entries_of p o ≡ l →
+      Talk p n (settles_all p s.frame.method l (λ numbers. does p s numbers s.frame.stack (group_of o))) es q → Talk p n (begins p s o) es q
+  where_entries {n = n} {q = q} {es = es} s o l is t = subst (λ x. Talk p n (settles_all p s.frame.method x (λ numbers. does p s numbers s.frame.stack (group_of o))) es q) (sym is) t
+
+  -- Main's frame alone at an instruction, with this stack
+  abbrev pub main_site : ℕ → List Value → Site
+  main_site at stack = record { frame = moved (first_frame (method_tree p 12)) at stack; definition = unwrap_or (method_at p 12) thread_entry; around = []; places = (main_frames p).places }

@@ -16,6 +16,7 @@ use Rattle.il_model.specs.declared.member.FRef.{FRef}
 use Rattle.il_model.specs.declared.method.Shape.TheVariants as shape
 use Rattle.il_model.specs.declared.method.Sort.TheVariants as sort
 use Rattle.il_model.specs.declared.method.Clause.{Clause}
+use Rattle.il_model.specs.declared.method.PType.{PType}
 use Rattle.il_model.specs.declared.method.MethodDef.{MethodDef}
 use Rattle.il_model.specs.declared.op.Op.{Op}
 use Rattle.il_model.specs.declared.op.Op.TheVariants as op
@@ -72,3 +73,39 @@ catches = program_of [] (op.LdcI4 (pos 1) ∷ op.LdcI4 (pos 0) ∷ op.Div ∷ op
 abbrev pub catches_history : History
 catches_history = by_main (ask.Alloc 10 0 0) (says.Object 1) ∷ prints 9 ∷ by_main ask.Finish says.Done ∷ []
 
+-- The program whose class has these fields, a Main of these locals and instructions, and these methods besides, from number 13.
+abbrev pub program_with : List FieldDef → List PType → List Op → List MethodDef → Program
+program_with fields locals code methods = record {
+  classes = library_classes ++ record { name = codes "P"; kind = kind.Plain; vars = []; base = Some (plain 0); interfaces = []; fields = fields; methods = 12 ∷ 13 ∷ [] } ∷ [];
+  methods = library_methods ++ main_method locals code [] ∷ methods;
+  literals = [];
+  main = 12;
+}
+
+-- a static method without parameters or result
+abbrev pub static_method : List ℕ → List Op → MethodDef
+static_method name code = record { owner = 13; name = name; shape = shape.Fixed; vars = []; params = []; result = None; body = Some (record { locals = []; code = code; clauses = [] }) }
+
+-- A call: Main calls a method that prints 7, and prints 8 itself.
+abbrev pub show : MRef
+show = record { instance = false; result = None; class = plain 13; name = codes "Show"; args = []; params = [] }
+
+abbrev pub calls : Program
+calls = program_with [] [] (op.Call show ∷ op.LdcI4 (pos 8) ∷ op.WriteLineInt32 ∷ op.Ret ∷ []) (static_method (codes "Show") (op.LdcI4 (pos 7) ∷ op.WriteLineInt32 ∷ op.Ret ∷ []) ∷ [])
+
+abbrev pub calls_history : History
+calls_history = prints 7 ∷ prints 8 ∷ by_main ask.Finish says.Done ∷ []
+
+-- A static field of int32: 3 is stored, exchanged for 4 through its address, and both are printed.
+abbrev pub count : FRef
+count = record { kind = int32; class = plain 13; name = codes "count" }
+
+abbrev pub exchanges : Program
+exchanges = program_with (record { name = codes "count"; fixed = true; kind = int32 } ∷ []) []
+    (op.LdcI4 (pos 3) ∷ op.Stsfld count ∷ op.Ldsflda count ∷ op.LdcI4 (pos 4) ∷ op.ExchangeInt32 ∷ op.WriteLineInt32 ∷ op.Ldsfld count ∷ op.WriteLineInt32 ∷ op.Ret ∷ [])
+    (static_method (codes "Show") (op.Ret ∷ []) ∷ [])
+
+abbrev pub exchanges_history : History
+exchanges_history =
+    by_main (ask.Save (at.Fixed 18 0) 3) says.Done ∷ by_main (ask.Exchange (at.Fixed 18 0) 4) (says.Word 3) ∷ prints 3 ∷
+    by_main (ask.Load (at.Fixed 18 0)) (says.Word 4) ∷ prints 4 ∷ by_main ask.Finish says.Done ∷ []
