@@ -1,5 +1,5 @@
 -- Facts on types without arguments that examples cite.
-use Rattle.std.proofs.Common.{◌≡◌, ℕ, zero, suc, Bool, true, false, List, [], ◌∷◌, ◌++◌, Option, Some, None, slice_get, ◌*◌, flat_map, refl, ap, ◌∙◌}
+use Rattle.std.proofs.Common.{◌≡◌, ℕ, zero, suc, Bool, true, false, List, [], ◌∷◌, ◌++◌, Option, Some, None, slice_get, ◌*◌, ◌&&◌, ◌||◌, nat_lt, flat_map, refl, ap, ◌∙◌}
 use Rattle.std.specs.List.{list_any}
 use Rattle.type_tree.specs.declared.tree.Head.TheVariants as head
 use Rattle.type_tree.specs.declared.tree.TExpr.{TExpr}
@@ -14,13 +14,15 @@ use Rattle.il_model.proofs.TreesLemmas.{is_same-node}
 use Rattle.il_model.specs.declared.class.ClassDef.{ClassDef}
 use Rattle.il_model.specs.declared.program.Program.{Program}
 use Rattle.il_model.specs.Library.{plain}
-use Rattle.il_model.specs.Kinds.{is_struct_kind, is_value}
+use Rattle.il_model.specs.Kinds.{is_struct_kind, is_struct_class, is_value, is_reference}
 use Rattle.il_model.specs.Find.{class_of}
 use Rattle.il_model.specs.Trees.{trees_in}
 use Rattle.il_model.specs.Assignable.{is_assignable_flat, assignable_within, is_assignable}
 use Rattle.il_model.specs.Admission.{has_count, steps_of, closure_within, closure_of, is_large, is_wide, limited_trees_of, limit_among, limit_of}
-use Rattle.il_model.specs.Layouts.{most_trees}
-use Rattle.cil_meaning.specs.Types.{passes_as}
+use Rattle.il_model.specs.Layouts.{most_trees, words_of, words_within, words_in, parts_if, instance_kinds_of}
+use Rattle.cil_meaning.specs.Types.{passes_as, kind_of, is_bool}
+use Rattle.cil_meaning.specs.Values.{Int32}
+use Rattle.cil_meaning.specs.TypedPrograms.{int32}
 
 pub positions_plain : (c : ℕ) → positions_of (plain c) ≡ 1
 positions_plain c = positions_of-node (head.Class c) []
@@ -87,3 +89,66 @@ wide_plain p c d is no_struct = rw (value_plain p c d is no_struct) refl
 
 pub class_plain : (p : Program) (c : ℕ) (d : ClassDef) → slice_get p.classes c ≡ Some d → class_of p (plain c) ≡ Some d
 class_plain p c d is = rw (top_of-tree_of) is
+
+-- int32 ------------------------------------------------------------------
+
+pub substituted_int32 : (as' bs : List TExpr) → substituted as' bs int32 ≡ int32
+substituted_int32 as' bs = substituted-node as' bs head.Int32 []
+
+pub same_int32 : is_same int32 int32 ≡ true
+same_int32 = is_same-node head.Int32 [] int32 ∙ rw (top_of-tree_of) refl
+
+no_class : (p : Program) → class_of p int32 ≡ None
+no_class p = rw (top_of-tree_of) refl
+
+words_within_int32 : (p : Program) (levels : ℕ) → words_within p levels int32 ≡ 1
+words_within_int32 p zero = refl
+words_within_int32 p (suc levels) = ap (λ c. words_in (λ part. words_within p levels part) (parts_if (is_struct_class c) (instance_kinds_of p int32))) (no_class p)
+
+pub words_int32 : (p : Program) → words_of p int32 ≡ 1
+words_int32 p = words_within_int32 p (most_trees * positions_of int32)
+
+pub kind_int32 : (p : Program) → kind_of p int32 ≡ Int32
+kind_int32 p = rw (top_of-tree_of) refl
+
+pub no_bool_int32 : is_bool int32 ≡ false
+no_bool_int32 = rw (top_of-tree_of) refl
+
+pub no_reference_int32 : (p : Program) → is_reference p int32 ≡ false
+no_reference_int32 p = rw (top_of-tree_of) refl
+
+value_int32 : (p : Program) → is_value p int32 ≡ true
+value_int32 p = rw (top_of-tree_of) refl
+
+large_int32 : is_large int32 ≡ false
+large_int32 = rw (positions_of-node head.Int32 []) refl
+
+wide_by : (p : Program) (words : ℕ) → words ≡ 1 → (is_value p int32 && nat_lt 16 words) ≡ false
+wide_by p words one = rw (value_int32 p, one) refl
+
+wide_int32 : (p : Program) → is_wide p int32 ≡ false
+wide_int32 p = wide_by p (words_of p int32) (words_int32 p)
+
+steps_int32 : (p : Program) → steps_of p int32 ≡ []
+steps_int32 p = simp (top_of-tree_of) refl
+
+trees_int32 : trees_in int32 ≡ int32 ∷ []
+trees_int32 = simp (positions_of-node, top_of-tree_of) refl
+
+pub admitted_int32 : (p : Program) → limit_of p int32 ≡ None
+admitted_int32 p = ap (limit_among p) (ap (flat_map (closure_of p)) trees_int32 ∙ append-nil (closure_of p int32))
+    ∙ none_among p (closure_of p int32) (none_root is_large p int32 (steps_int32 p) large_int32 (most_trees * positions_of int32)) (none_root (is_wide p) p int32 (steps_int32 p) (wide_int32 p) (most_trees * positions_of int32))
+
+-- a test that no tree passes of a closure that goes on to two types
+by_head : (test : TExpr → Bool) (b : Bool) (xs ys : List TExpr) → (b || list_any test xs) ≡ false → list_any test ys ≡ false → (list_any test xs ≡ false → list_any test (xs ++ ys) ≡ false) → (b || list_any test (xs ++ ys)) ≡ false
+by_head test true xs ys none_of others go = none_of
+by_head test false xs ys none_of others go = go none_of
+
+list_any-append : (test : TExpr → Bool) (xs ys : List TExpr) → list_any test xs ≡ false → list_any test ys ≡ false → list_any test (xs ++ ys) ≡ false
+list_any-append test [] ys none_of others = others
+list_any-append test (x ∷ xs) ys none_of others = by_head test (test x) xs ys none_of others (λ e. list_any-append test xs ys e others)
+
+pub none_above_two : (test : TExpr → Bool) (p : Program) (t u v : TExpr) → steps_of p t ≡ u ∷ v ∷ [] → test t ≡ false → ((levels : ℕ) → list_any test (closure_within p levels u) ≡ false) →
+    ((levels : ℕ) → list_any test (closure_within p levels v) ≡ false) → (levels : ℕ) → list_any test (closure_within p levels t) ≡ false
+none_above_two test p t u v steps fails first second zero = rw fails refl
+none_above_two test p t u v steps fails first second (suc levels) = rw (fails, steps, append-nil (closure_within p levels v)) (list_any-append test (closure_within p levels u) (closure_within p levels v) (first levels) (second levels))

@@ -46,3 +46,7 @@ module _ (p : Program) where
   -- Main's frame alone at an instruction, with this stack
   abbrev pub main_site : ℕ → List Value → Site
   main_site at stack = record { frame = moved (first_frame (method_tree p 12)) at stack; definition = unwrap_or (method_at p 12) thread_entry; around = []; places = (main_frames p).places }
+
+  -- a number that is this one
+  pub where_number : {n : Naming Mention TExpr} {q : Left} {es : List (Exchange Request Reply)} (k : ℕ → Left) (i j : ℕ) → i ≡ j → Talk p n (k j) es q → Talk p n (k i) es q
+  where_number {n = n} {q = q} {es = es} k i j is t = subst (λ x. Talk p n (k x) es q) (sym is) t
