@@ -1,18 +1,16 @@
 -- The small program with a call means what was written by hand.
 use Rattle.std.proofs.Common.{◌≡◌, ℕ, List, [], ◌∷◌, Option, Some, None, map, refl, ap, ◌∙◌}
-use Rattle.std.specs.List.{list_any}
 use Rattle.std.specs.Prelude.{option_and_then, option_to_list, ◌+◌, nat_lt, if◌then◌else◌}
 use Rattle.type_tree.specs.Positions.{positions_of}
 use Rattle.il_model.specs.declared.layout.Limit.{Limit}
 use Rattle.il_model.specs.declared.layout.Limit.TheVariants as limit
 use Rattle.type_tree.specs.declared.tree.TExpr.{TExpr}
 use Rattle.type_tree.specs.Substitution.{substituted}
-use Rattle.il_model.specs.declared.entry.Entry.TheVariants as entry
 use Rattle.il_model.specs.Entries.{arguments_of, method_entry, entries_of}
 use Rattle.il_model.specs.declared.op.Op.TheVariants as op
 use Rattle.il_model.specs.Found.{own_method, method_found}
 use Rattle.il_model.specs.Library.{plain}
-use Rattle.il_model.specs.Admission.{limit_of, steps_of, closure_within, is_large, is_wide}
+use Rattle.il_model.specs.Admission.{limit_of, steps_of, is_large, is_wide}
 use Rattle.interaction.specs.Process.{rests, begins, settles, asks}
 use Rattle.cil_meaning.specs.Mentions.{worst, limit_of_method}
 use Rattle.cil_meaning.specs.SmallPrograms.{Means}

@@ -1,5 +1,6 @@
 mod PlainTypes
 mod Steps
 mod NumberPrograms
-mod TypedPrograms
+mod CatchProgram
 mod CallProgram
+mod ExchangeProgram

@@ -1,9 +1,8 @@
 -- Facts on types without arguments that examples cite.
-use Rattle.std.proofs.Common.{◌≡◌, ℕ, zero, suc, Bool, true, false, List, [], ◌∷◌, ◌++◌, Option, Some, None, slice_get, ◌*◌, ◌&&◌, ◌||◌, nat_lt, flat_map, refl, ap, ◌∙◌}
+use Rattle.std.proofs.Common.{◌≡◌, ℕ, zero, suc, Bool, true, false, List, [], ◌∷◌, ◌++◌, Some, None, slice_get, ◌*◌, ◌&&◌, ◌||◌, nat_lt, flat_map, refl, ap, ◌∙◌}
 use Rattle.std.specs.List.{list_any}
 use Rattle.type_tree.specs.declared.tree.Head.TheVariants as head
 use Rattle.type_tree.specs.declared.tree.TExpr.{TExpr}
-use Rattle.type_tree.specs.Tree.{node, top_of}
 use Rattle.type_tree.specs.Substitution.{substituted}
 use Rattle.type_tree.specs.Positions.{positions_of}
 use Rattle.type_tree.specs.Same.{is_same}
@@ -17,8 +16,8 @@ use Rattle.il_model.specs.Library.{plain}
 use Rattle.il_model.specs.Kinds.{is_struct_kind, is_struct_class, is_value, is_reference}
 use Rattle.il_model.specs.Find.{class_of}
 use Rattle.il_model.specs.Trees.{trees_in}
-use Rattle.il_model.specs.Assignable.{is_assignable_flat, assignable_within, is_assignable}
-use Rattle.il_model.specs.Admission.{has_count, steps_of, closure_within, closure_of, is_large, is_wide, limited_trees_of, limit_among, limit_of}
+use Rattle.il_model.specs.Assignable.{is_assignable_flat, assignable_within}
+use Rattle.il_model.specs.Admission.{steps_of, closure_within, closure_of, is_large, is_wide, limited_trees_of, limit_among, limit_of}
 use Rattle.il_model.specs.Layouts.{most_trees, words_of, words_within, words_in, parts_if, instance_kinds_of}
 use Rattle.cil_meaning.specs.Types.{passes_as, kind_of, is_bool}
 use Rattle.cil_meaning.specs.Values.{Int32}
@@ -138,6 +137,17 @@ trees_int32 = simp (positions_of-node, top_of-tree_of) refl
 pub admitted_int32 : (p : Program) → limit_of p int32 ≡ None
 admitted_int32 p = ap (limit_among p) (ap (flat_map (closure_of p)) trees_int32 ∙ append-nil (closure_of p int32))
     ∙ none_among p (closure_of p int32) (none_root is_large p int32 (steps_int32 p) large_int32 (most_trees * positions_of int32)) (none_root (is_wide p) p int32 (steps_int32 p) (wide_int32 p) (most_trees * positions_of int32))
+
+pub none_int32_large : (p : Program) (levels : ℕ) → list_any is_large (closure_within p levels int32) ≡ false
+none_int32_large p = none_root is_large p int32 (steps_int32 p) large_int32
+
+pub none_int32_wide : (p : Program) (levels : ℕ) → list_any (is_wide p) (closure_within p levels int32) ≡ false
+none_int32_wide p = none_root (is_wide p) p int32 (steps_int32 p) (wide_int32 p)
+
+-- the closure of a class with a base and a field of int32
+pub steps_with_int32 : (p : Program) (c b : ℕ) (d e : ClassDef) (name : List ℕ) (fixed : Bool) → slice_get p.classes c ≡ Some d → d.base ≡ Some (plain b) → d.interfaces ≡ [] →
+    d.fields ≡ record { name = name; fixed = fixed; kind = int32 } ∷ [] → slice_get p.classes b ≡ Some e → e.vars ≡ [] → steps_of p (plain c) ≡ plain b ∷ int32 ∷ []
+steps_with_int32 p c b d e name fixed is base interfaces fields other vars = simp (top_of-tree_of, is, base, interfaces, fields, substituted-node, other, vars) refl
 
 -- a test that no tree passes of a closure that goes on to two types
 by_head : (test : TExpr → Bool) (b : Bool) (xs ys : List TExpr) → (b || list_any test xs) ≡ false → list_any test ys ≡ false → (list_any test xs ≡ false → list_any test (xs ++ ys) ≡ false) → (b || list_any test (xs ++ ys)) ≡ false

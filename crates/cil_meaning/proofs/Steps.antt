@@ -3,7 +3,6 @@ use Rattle.std.proofs.Common.{◌≡◌, ℕ, Bool, true, false, List, [], Optio
 use Rattle.type_tree.specs.declared.tree.TExpr.{TExpr}
 use Rattle.il_model.specs.declared.entry.Entry.{Entry}
 use Rattle.il_model.specs.declared.layout.Limit.{Limit}
-use Rattle.il_model.specs.declared.layout.MethodTree.{MethodTree}
 use Rattle.il_model.specs.declared.program.Program.{Program}
 use Rattle.interaction.specs.Process.{Naming, Exchange}
 use Rattle.store_object.specs.declared.request.Request.{Request}
@@ -47,6 +46,6 @@ module _ (p : Program) where
   abbrev pub main_site : ℕ → List Value → Site
   main_site at stack = record { frame = moved (first_frame (method_tree p 12)) at stack; definition = unwrap_or (method_at p 12) thread_entry; around = []; places = (main_frames p).places }
 
-  -- a number that is this one
-  pub where_number : {n : Naming Mention TExpr} {q : Left} {es : List (Exchange Request Reply)} (k : ℕ → Left) (i j : ℕ) → i ≡ j → Talk p n (k j) es q → Talk p n (k i) es q
-  where_number {n = n} {q = q} {es = es} k i j is t = subst (λ x. Talk p n (k x) es q) (sym is) t
+  -- what goes on from a value that is this one
+  pub where_is : {n : Naming Mention TExpr} {q : Left} {es : List (Exchange Request Reply)} {A : Type 0} (k : A → Left) (a b : A) → a ≡ b → Talk p n (k b) es q → Talk p n (k a) es q
+  where_is {n = n} {q = q} {es = es} k a b is t = subst (λ x. Talk p n (k x) es q) (sym is) t

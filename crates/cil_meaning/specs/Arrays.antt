@@ -49,7 +49,7 @@ module _ (p : Program) (s : Site) where
   puts_reference w i r vs =
       if r == 0 then puts w i 1 (r ∷ []) vs
       else types p w (λ vector. types p r (λ item. spells vector (λ vector_type. spells item (λ exact. given (element_of vector_type) (λ element.
-          if passes_as p exact element then puts w i 1 (r ∷ []) vs else throws p s array_type_mismatch)))))
+      if passes_as p exact element then puts w i 1 (r ∷ []) vs else throws p s array_type_mismatch)))))
 
   abbrev pub puts_element : (is_reference : Bool) → (vector index size : ℕ) → List ℕ → List Value → Left
   puts_element true w i size words vs = one_word words (λ r. puts_reference w i r vs)

@@ -129,10 +129,10 @@ module _ (p : Program) (s : Site) where
       takes (length (argument_places p (callee_here m number) d)) stack [] (λ arguments rest. calls (callee_here m number) arguments rest Result [])))
   on_call numbers (CallsSlot m) stack = given (method_found p m) (λ number. given (method_at p number) (λ d.
       takes (length d.params + 1) stack [] (λ arguments rest. pops arguments (λ object others. as_reference object (λ w.
-          calls_reference (has_slot d.shape) m number w others rest)))))
+      calls_reference (has_slot d.shape) m number w others rest)))))
   on_call numbers (CallsConstrained t m) stack = given (method_found p m) (λ number. given (method_at p number) (λ d.
       takes (length d.params + 1) stack [] (λ arguments rest. pops arguments (λ object others. as_pointer object (λ q.
-          calls_constrained (is_reference p (put_type s.frame.method t)) (put_type s.frame.method t) (put_type s.frame.method m.class) number numbers q others rest)))))
+      calls_constrained (is_reference p (put_type s.frame.method t)) (put_type s.frame.method t) (put_type s.frame.method m.class) number numbers q others rest)))))
   on_call numbers (Creates m) stack = given (method_found p m) (λ number. given (method_at p number) (λ d.
       takes (length d.params) stack [] (λ arguments rest. creates (is_value p (put_type s.frame.method m.class)) (callee_here m number) numbers arguments rest)))
   on_call numbers Returns stack = returns_with s.definition.result stack

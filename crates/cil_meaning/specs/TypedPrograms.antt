@@ -1,5 +1,5 @@
 -- Small programs with types, and what their histories must be, written by hand. This project's own.
-use Rattle.std.specs.Prelude.{ℕ, ◌+◌, ◌-◌, ◌==◌, nat_le, nat_lt, ◌&&◌, true, false, if◌then◌else◌, pos, List, [], ◌∷◌, ◌++◌, Option, Some, None, codes}
+use Rattle.std.specs.Prelude.{ℕ, ◌+◌, ◌-◌, nat_le, nat_lt, ◌&&◌, true, false, if◌then◌else◌, pos, List, [], ◌∷◌, ◌++◌, Some, None, codes}
 use Rattle.type_tree.specs.declared.tree.Head.{Head}
 use Rattle.type_tree.specs.declared.tree.Head.TheVariants as head
 use Rattle.type_tree.specs.declared.tree.TExpr.{TExpr}
@@ -7,7 +7,6 @@ use Rattle.type_tree.specs.declared.tree.TNode.{TNode}
 use Rattle.type_tree.specs.declared.tree.TNode.TheVariants.{Node, ClassVar, MethodVar}
 use Rattle.type_tree.specs.Tree.{node, top_of}
 use Rattle.il_model.specs.declared.class.ClassKind.TheVariants as kind
-use Rattle.il_model.specs.declared.class.ClassDef.{ClassDef}
 use Rattle.il_model.specs.declared.class.FieldDef.{FieldDef}
 use Rattle.il_model.specs.declared.entry.Entry.{Entry}
 use Rattle.il_model.specs.declared.entry.Entry.TheVariants as entry
@@ -15,7 +14,6 @@ use Rattle.il_model.specs.declared.member.MRef.{MRef}
 use Rattle.il_model.specs.declared.member.FRef.{FRef}
 use Rattle.il_model.specs.declared.method.Shape.TheVariants as shape
 use Rattle.il_model.specs.declared.method.Sort.TheVariants as sort
-use Rattle.il_model.specs.declared.method.Clause.{Clause}
 use Rattle.il_model.specs.declared.method.PType.{PType}
 use Rattle.il_model.specs.declared.method.MethodDef.{MethodDef}
 use Rattle.il_model.specs.declared.op.Op.{Op}

@@ -1,4 +1,7 @@
 use Rattle.cil_meaning.proofs.NumberPrograms.{sums_mean, shifts_mean, division_means, least_means, checked_sum_means, joins_nobody_means}
+use Rattle.cil_meaning.proofs.CatchProgram.{catches_mean}
+use Rattle.cil_meaning.proofs.CallProgram.{calls_mean}
+use Rattle.cil_meaning.proofs.ExchangeProgram.{exchanges_mean}
 use Rattle.cil_meaning.proofs.small_programs.small_programs_mean_so.Goals as goal
 
 pub returns-clause-sums : goal.returns-clause-sums
@@ -18,3 +21,12 @@ returns-clause-checked_sum c = checked_sum_means
 
 pub returns-clause-joins_nobody : goal.returns-clause-joins_nobody
 returns-clause-joins_nobody c = joins_nobody_means
+
+pub returns-clause-catches : goal.returns-clause-catches
+returns-clause-catches c = catches_mean
+
+pub returns-clause-calls : goal.returns-clause-calls
+returns-clause-calls c = calls_mean
+
+pub returns-clause-exchanges : goal.returns-clause-exchanges
+returns-clause-exchanges c = exchanges_mean

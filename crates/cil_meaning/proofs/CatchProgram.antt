@@ -1,14 +1,11 @@
--- The small programs with types mean what was written by hand.
-use Rattle.std.proofs.Common.{◌≡◌, ℕ, Bool, true, false, slice_get, List, [], ◌∷◌, Option, Some, None, refl, ap, ◌∙◌}
+-- The small program with a caught exception means what was written by hand.
+use Rattle.std.proofs.Common.{◌≡◌, ℕ, Bool, true, false, slice_get, List, [], ◌∷◌, Some, None, refl, ap, ◌∙◌}
 use Rattle.std.specs.List.{list_any}
-use Rattle.type_tree.specs.Tree.{node}
 use Rattle.type_tree.specs.Same.{is_same}
 use Rattle.type_tree.specs.declared.tree.TExpr.{TExpr}
 use Rattle.type_tree.specs.declared.tree.Head.TheVariants as head
 use Rattle.type_tree.specs.Substitution.{substituted}
 use Rattle.type_tree.proofs.TreeLemmas.{top_of-tree_of}
-use Rattle.type_tree.proofs.SubstitutionLemmas.{substituted-node}
-use Rattle.type_tree.proofs.PositionsLemmas.{positions_of-node}
 use Rattle.il_model.proofs.TreesLemmas.{is_same-node}
 use Rattle.il_model.specs.declared.class.ClassDef.{ClassDef}
 use Rattle.il_model.specs.Entries.{arguments_of}
