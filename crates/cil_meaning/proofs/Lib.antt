@@ -4,3 +4,4 @@ mod NumberPrograms
 mod CatchProgram
 mod CallProgram
 mod ExchangeProgram
+mod WideProgram

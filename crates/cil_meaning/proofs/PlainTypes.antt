@@ -71,7 +71,7 @@ large_plain c = rw (positions_plain c) refl
 pub trees_plain : (c : ℕ) → trees_in (plain c) ≡ plain c ∷ []
 trees_plain c = simp (positions_plain c, top_of-tree_of) refl
 
-limited_plain : (p : Program) (c : ℕ) → limited_trees_of p (plain c) ≡ closure_of p (plain c)
+pub limited_plain : (p : Program) (c : ℕ) → limited_trees_of p (plain c) ≡ closure_of p (plain c)
 limited_plain p c = ap (flat_map (closure_of p)) (trees_plain c) ∙ append-nil (closure_of p (plain c))
 
 none_among : (p : Program) (ts : List TExpr) → list_any is_large ts ≡ false → list_any (is_wide p) ts ≡ false → limit_among p ts ≡ None
@@ -100,7 +100,7 @@ same_int32 = is_same-node head.Int32 [] int32 ∙ rw (top_of-tree_of) refl
 no_class : (p : Program) → class_of p int32 ≡ None
 no_class p = rw (top_of-tree_of) refl
 
-words_within_int32 : (p : Program) (levels : ℕ) → words_within p levels int32 ≡ 1
+pub words_within_int32 : (p : Program) (levels : ℕ) → words_within p levels int32 ≡ 1
 words_within_int32 p zero = refl
 words_within_int32 p (suc levels) = ap (λ c. words_in (λ part. words_within p levels part) (parts_if (is_struct_class c) (instance_kinds_of p int32))) (no_class p)
 
@@ -154,7 +154,7 @@ by_head : (test : TExpr → Bool) (b : Bool) (xs ys : List TExpr) → (b || list
 by_head test true xs ys none_of others go = none_of
 by_head test false xs ys none_of others go = go none_of
 
-list_any-append : (test : TExpr → Bool) (xs ys : List TExpr) → list_any test xs ≡ false → list_any test ys ≡ false → list_any test (xs ++ ys) ≡ false
+pub list_any-append : (test : TExpr → Bool) (xs ys : List TExpr) → list_any test xs ≡ false → list_any test ys ≡ false → list_any test (xs ++ ys) ≡ false
 list_any-append test [] ys none_of others = others
 list_any-append test (x ∷ xs) ys none_of others = by_head test (test x) xs ys none_of others (λ e. list_any-append test xs ys e others)
 

@@ -4,12 +4,13 @@ use Rattle.type_tree.specs.declared.tree.TExpr.{TExpr}
 use Rattle.il_model.specs.declared.entry.Entry.{Entry}
 use Rattle.il_model.specs.declared.layout.Limit.{Limit}
 use Rattle.il_model.specs.declared.program.Program.{Program}
-use Rattle.interaction.specs.Process.{Naming, Exchange}
+use Rattle.interaction.specs.Process.{Naming, Exchange, Ask}
+use Rattle.store_object.specs.declared.request.Request.TheVariants as ask
 use Rattle.store_object.specs.declared.request.Request.{Request}
 use Rattle.store_object.specs.declared.reply.Reply.{Reply}
 use Rattle.cil_meaning.specs.Naming.{Mention}
-use Rattle.cil_meaning.specs.Replies.{Left}
-use Rattle.cil_meaning.specs.Mentions.{within, settles_all}
+use Rattle.cil_meaning.specs.Replies.{Left, on_stopped}
+use Rattle.cil_meaning.specs.Mentions.{cause_of, within, settles_all}
 use Rattle.cil_meaning.specs.Pieces.{given}
 use Rattle.il_model.specs.declared.op.Op.{Op}
 use Rattle.std.specs.Prelude.{unwrap_or}
@@ -27,6 +28,10 @@ use Rattle.cil_meaning.specs.Language.{Talk}
 module _ (p : Program) where
   pub within_limits : {n : Naming Mention TExpr} {q left : Left} {es : List (Exchange Request Reply)} (l : Option Limit) → l ≡ None → Talk p n left es q → Talk p n (within l left) es q
   within_limits {n = n} {q = q} {left = left} {es = es} l none t = subst (λ x. Talk p n (within x left) es q) (sym none) t
+
+  -- the run stops at a limit
+  pub stops_at : {n : Naming Mention TExpr} {q : Left} {es : List (Exchange Request Reply)} (left : Left) (l : Option Limit) (c : Limit) → l ≡ Some c → Talk p n (Ask (ask.Stop (cause_of c)) on_stopped) es q → Talk p n (within l left) es q
+  stops_at {n = n} {q = q} {es = es} left l c is t = subst (λ x. Talk p n (within x left) es q) (sym is) t
 
   pub where_true : {n : Naming Mention TExpr} {q : Left} {es : List (Exchange Request Reply)} (left other : Left) (b : Bool) → b ≡ true → Talk p n left es q → Talk p n (if b then left else other) es q
   where_true {n = n} {q = q} {es = es} left other b is t = subst (λ x. Talk p n (if x then left else other) es q) (sym is) t

@@ -1,5 +1,5 @@
 -- Small programs with types, and what their histories must be, written by hand. This project's own.
-use Rattle.std.specs.Prelude.{ℕ, ◌+◌, ◌-◌, nat_le, nat_lt, ◌&&◌, true, false, if◌then◌else◌, pos, List, [], ◌∷◌, ◌++◌, Some, None, codes}
+use Rattle.std.specs.Prelude.{ℕ, zero, suc, ◌+◌, ◌-◌, nat_le, nat_lt, ◌&&◌, true, false, if◌then◌else◌, pos, List, [], ◌∷◌, ◌++◌, Some, None, codes}
 use Rattle.type_tree.specs.declared.tree.Head.{Head}
 use Rattle.type_tree.specs.declared.tree.Head.TheVariants as head
 use Rattle.type_tree.specs.declared.tree.TExpr.{TExpr}
@@ -19,9 +19,10 @@ use Rattle.il_model.specs.declared.method.MethodDef.{MethodDef}
 use Rattle.il_model.specs.declared.op.Op.{Op}
 use Rattle.il_model.specs.declared.op.Op.TheVariants as op
 use Rattle.il_model.specs.declared.program.Program.{Program}
-use Rattle.il_model.specs.Library.{plain, library_classes, library_methods}
+use Rattle.il_model.specs.Library.{plain, library_class, library_classes, library_methods}
 use Rattle.interaction.specs.Process.{Naming}
 use Rattle.store_object.specs.declared.place.Place.TheVariants as at
+use Rattle.store_object.specs.declared.request.Cause.TheVariants as cause
 use Rattle.store_object.specs.declared.request.Request.TheVariants as ask
 use Rattle.store_object.specs.declared.reply.Reply.TheVariants as says
 use Rattle.cil_meaning.specs.Naming.{Mention, OfEntry, OfClause, OfSlot, OfFault}
@@ -107,3 +108,21 @@ abbrev pub exchanges_history : History
 exchanges_history =
     by_main (ask.Save (at.Fixed 18 0) 3) says.Done ∷ by_main (ask.Exchange (at.Fixed 18 0) 4) (says.Word 3) ∷ prints 3 ∷
     by_main (ask.Load (at.Fixed 18 0)) (says.Word 4) ∷ prints 4 ∷ by_main ask.Finish says.Done ∷ []
+
+-- A refused mention: the name of a struct of 17 words, which no value may have, and the run stops.
+abbrev pub int32_fields : ℕ → List FieldDef
+int32_fields zero = []
+int32_fields (suc n) = record { name = codes "f"; fixed = false; kind = int32 } ∷ int32_fields n
+
+abbrev pub wide : Program
+wide = record {
+  classes =
+      library_classes ++ library_class (codes "P") kind.Plain (Some (plain 0)) (12 ∷ []) ∷
+      record { name = codes "Wide"; kind = kind.Struct; vars = []; base = None; interfaces = []; fields = int32_fields 17; methods = [] } ∷ [];
+  methods = library_methods ++ main_method [] (op.NameOf (plain 14) ∷ op.WriteLineString ∷ op.Ret ∷ []) [] ∷ [];
+  literals = [];
+  main = 12;
+}
+
+abbrev pub wide_history : History
+wide_history = by_main (ask.Stop cause.ValueWords) (says.Stopped cause.ValueWords) ∷ []

@@ -2,6 +2,7 @@ use Rattle.cil_meaning.proofs.NumberPrograms.{sums_mean, shifts_mean, division_m
 use Rattle.cil_meaning.proofs.CatchProgram.{catches_mean}
 use Rattle.cil_meaning.proofs.CallProgram.{calls_mean}
 use Rattle.cil_meaning.proofs.ExchangeProgram.{exchanges_mean}
+use Rattle.cil_meaning.proofs.WideProgram.{wide_means}
 use Rattle.cil_meaning.proofs.small_programs.small_programs_mean_so.Goals as goal
 
 pub returns-clause-sums : goal.returns-clause-sums
@@ -30,3 +31,6 @@ returns-clause-calls c = calls_mean
 
 pub returns-clause-exchanges : goal.returns-clause-exchanges
 returns-clause-exchanges c = exchanges_mean
+
+pub returns-clause-wide : goal.returns-clause-wide
+returns-clause-wide c = wide_means
