@@ -5,3 +5,4 @@ mod CatchProgram
 mod CallProgram
 mod ExchangeProgram
 mod WideProgram
+mod PointerProgram

@@ -15,6 +15,7 @@ use Rattle.il_model.specs.declared.member.FRef.{FRef}
 use Rattle.il_model.specs.declared.method.Shape.TheVariants as shape
 use Rattle.il_model.specs.declared.method.Sort.TheVariants as sort
 use Rattle.il_model.specs.declared.method.PType.{PType}
+use Rattle.il_model.specs.declared.method.PType.TheVariants as ptype
 use Rattle.il_model.specs.declared.method.MethodDef.{MethodDef}
 use Rattle.il_model.specs.declared.op.Op.{Op}
 use Rattle.il_model.specs.declared.op.Op.TheVariants as op
@@ -126,3 +127,20 @@ wide = record {
 
 abbrev pub wide_history : History
 wide_history = by_main (ask.Stop cause.ValueWords) (says.Stopped cause.ValueWords) ∷ []
+
+-- A field by pointer: 5 is stored into the second field of a local struct through its address, and read so. A frame's words take no request.
+abbrev pub second : FRef
+second = record { kind = int32; class = plain 14; name = codes "b" }
+
+abbrev pub points : Program
+points = record {
+  classes =
+      library_classes ++ library_class (codes "P") kind.Plain (Some (plain 0)) (12 ∷ []) ∷
+      record { name = codes "S"; kind = kind.Struct; vars = []; base = None; interfaces = []; fields = record { name = codes "a"; fixed = false; kind = int32 } ∷ record { name = codes "b"; fixed = false; kind = int32 } ∷ []; methods = [] } ∷ [];
+  methods = library_methods ++ main_method (ptype.Value (plain 14) ∷ []) (op.Ldloca 0 ∷ op.LdcI4 (pos 5) ∷ op.Stfld second ∷ op.Ldloca 0 ∷ op.Ldfld second ∷ op.WriteLineInt32 ∷ op.Ret ∷ []) [] ∷ [];
+  literals = [];
+  main = 12;
+}
+
+abbrev pub points_history : History
+points_history = prints 5 ∷ by_main ask.Finish says.Done ∷ []

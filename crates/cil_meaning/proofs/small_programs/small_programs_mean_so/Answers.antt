@@ -3,6 +3,7 @@ use Rattle.cil_meaning.proofs.CatchProgram.{catches_mean}
 use Rattle.cil_meaning.proofs.CallProgram.{calls_mean}
 use Rattle.cil_meaning.proofs.ExchangeProgram.{exchanges_mean}
 use Rattle.cil_meaning.proofs.WideProgram.{wide_means}
+use Rattle.cil_meaning.proofs.PointerProgram.{points_mean}
 use Rattle.cil_meaning.proofs.small_programs.small_programs_mean_so.Goals as goal
 
 pub returns-clause-sums : goal.returns-clause-sums
@@ -34,3 +35,6 @@ returns-clause-exchanges c = exchanges_mean
 
 pub returns-clause-wide : goal.returns-clause-wide
 returns-clause-wide c = wide_means
+
+pub returns-clause-points : goal.returns-clause-points
+returns-clause-points c = points_mean
