@@ -6,3 +6,4 @@ mod CallProgram
 mod ExchangeProgram
 mod WideProgram
 mod PointerProgram
+mod SlotExample

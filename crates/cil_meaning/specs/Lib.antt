@@ -24,3 +24,4 @@ pub mod Language
 pub mod Shown
 pub mod SmallPrograms
 pub mod TypedPrograms
+pub mod SlotExample

@@ -1,5 +1,6 @@
 ghost use Rattle.cil_meaning.specs.SmallPrograms.{Means, faults_named, sums, sums_history, shifts, shifts_history, division, division_history, least, checked_sum, overflow_history, joins_nobody, joins_nobody_history};
 ghost use Rattle.cil_meaning.specs.TypedPrograms.{classes_named, catches, catches_history, calls, calls_history, exchanges, exchanges_history, wide, wide_history, points, points_history};
+ghost use Rattle.cil_meaning.specs.SlotExample.{FindsSlots};
 
 /// What small programs mean, by histories that were written by hand: the store gives the replies, and from
 /// its beginning to its end Main makes just these requests. It does nothing; its clauses are what is proved.
@@ -25,4 +26,7 @@ pub fn small_programs_mean_so()
 
     // A mention of a struct of 17 words, which stops the run.
     ensures wide { Means wide classes_named wide_history }
+
+    // Which slots calls go to, on a few classes.
+    ensures slots { FindsSlots }
 {}

@@ -4,6 +4,7 @@ use Rattle.cil_meaning.proofs.CallProgram.{calls_mean}
 use Rattle.cil_meaning.proofs.ExchangeProgram.{exchanges_mean}
 use Rattle.cil_meaning.proofs.WideProgram.{wide_means}
 use Rattle.cil_meaning.proofs.PointerProgram.{points_mean}
+use Rattle.cil_meaning.proofs.SlotExample.{finds_slots}
 use Rattle.cil_meaning.proofs.small_programs.small_programs_mean_so.Goals as goal
 
 pub returns-clause-sums : goal.returns-clause-sums
@@ -38,3 +39,6 @@ returns-clause-wide c = wide_means
 
 pub returns-clause-points : goal.returns-clause-points
 returns-clause-points c = points_mean
+
+pub returns-clause-slots : goal.returns-clause-slots
+returns-clause-slots c = finds_slots
