@@ -1,0 +1,6 @@
+pub mod Spaces
+pub mod ClassNames
+pub mod Forms
+pub mod Operands
+pub mod Marks
+pub mod Parts
