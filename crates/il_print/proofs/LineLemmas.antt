@@ -1,7 +1,8 @@
 -- Lines of the text, joined.
-use Rattle.std.proofs.Common.{◌≡◌, ℕ, ◌+◌, ◌*◌, ◌<◌, Bool, Option, Some, None, if◌then◌else◌, List, [], ◌∷◌, ◌++◌, length, get_or, take, drop, flat_map, replicate, codes, refl, sym, ap, ◌∙◌, append_assoc, append-nil, add-one, drop-cons}
+use Rattle.std.proofs.Common.{◌≡◌, ℕ, ◌+◌, ◌*◌, ◌<◌, Bool, Option, Some, None, if◌then◌else◌, List, [], ◌∷◌, ◌++◌, length, get_or, take, drop, flat_map, sum_by, length-append, replicate, codes, refl, sym, ap, ◌∙◌, append_assoc, append-nil, add-one, drop-cons}
 use Rattle.std.proofs.lemmas.List.{take_more}
 use Rattle.std.proofs.Math.Seq.{drop-length}
+use Rattle.std.proofs.lemmas.List.Sums.{sum_by-cons}
 use Rattle.std.proofs.lemmas.List.Concat.{flat_map-append}
 use Rattle.il_model.specs.declared.op.Op.{Op}
 use Rattle.il_model.specs.declared.method.PType.{PType}
@@ -138,3 +139,12 @@ class_written p names c start s1 s2 s3 now is_head are_fields are_methods is_end
     let methods = flat_map (method_lines p names) c.methods in
     joined_lines ((head ++ fields) ++ methods) (line 0 (codes "}" ∷ [])) start s3 now
     (joined_lines (head ++ fields) methods start s2 s3 (joined_lines head fields start s1 s2 is_head are_fields) are_methods) is_end
+
+-- how many bytes these lines have, part by part
+pub lines_length : {X : Type 0} (f : X → List Line) (xs : List X) → length (lines_text (flat_map f xs)) ≡ sum_by (λ x. length (lines_text (f x))) xs
+lines_length f [] = refl
+lines_length f (x ∷ xs) =
+    ap length (flat_map-append line_text (f x) (flat_map f xs))
+    ∙ length-append (lines_text (f x)) (lines_text (flat_map f xs))
+    ∙ ap (λ n. length (lines_text (f x)) + n) (lines_length f xs)
+    ∙ sym (sum_by-cons (λ y. length (lines_text (f y))) x xs)

@@ -15,4 +15,4 @@ mod scope;
 mod text;
 mod types;
 
-pub use printing::print;
+pub use printing::{canonical_length, print};

@@ -1,7 +1,7 @@
 // Whole programs.
-ghost use Rattle.std.specs.Prelude.{◌≡◌, ◌++◌, drop, length, flat_map, IfOk, OnOk};
+ghost use Rattle.std.specs.Prelude.{◌≡◌, ◌-◌, ◌^◌, ◌++◌, min, drop, length, flat_map, IfOk, OnOk};
 ghost use Rattle.il_model.specs.Library.{library_classes};
-ghost use Rattle.il_model.specs.Canonical.{canonical_text, class_lines};
+ghost use Rattle.il_model.specs.Canonical.{canonical_text, canonical_len, class_lines};
 ghost use Rattle.il_print.specs.ClassNames.{names_of};
 ghost use Rattle.il_print.specs.Parts.{lines_text};
 
@@ -23,6 +23,28 @@ pub fn print(alloc: Global, program: &Program) -> Result<Vec<u8>, NoMemory>
     let mut text = Text::new(alloc);
     put_classes(&mut text, program, own_classes(program))?;
     Ok(text.into_bytes())
+}
+
+/// How many bytes the canonical text of a program has, or 2^64 - 1 where it has more. One class at a time is
+/// printed and let go, so that the whole text is never held.
+pub fn canonical_length(alloc: Global, program: &Program) -> Result<u64, NoMemory>
+    ensures { IfOk result (λ count. count ≡ min (canonical_len program.now) (2 ^ 64 - 1)) }
+{
+    let classes = own_classes(program);
+    let mut count: u64 = 0;
+    for class in classes {
+        count = count.saturating_add(class_length(alloc, program, class)?);
+    }
+    Ok(count)
+}
+
+fn class_length(alloc: Global, program: &Program, class: &ClassDef) -> Result<u64, NoMemory>
+    ensures { IfOk result (λ count. count ≡
+        length (lines_text (class_lines program.now (names_of program.now.classes) class.now))) }
+{
+    let mut text = Text::new(alloc);
+    put_class(&mut text, program, class)?;
+    Ok(text.bytes().len() as u64)
 }
 
 fn own_classes(program: &Program) -> &[ClassDef]
