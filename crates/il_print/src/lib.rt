@@ -12,6 +12,8 @@ mod operands;
 mod params;
 mod printing;
 mod scope;
+#[cfg(test)]
+mod tests;
 mod text;
 mod types;
 
