@@ -1,5 +1,5 @@
 -- Marks, the places that they stand for, and the numbers of labels.
-use Rattle.std.proofs.Common.{◌≡◌, ℕ, zero, suc, ◌+◌, ◌<◌, ◌≤◌, Bool, true, false, ◌||◌, ◌==◌, ◌≢◌, List, [], ◌∷◌, ◌++◌, length, replicate, flat_map, fold, slice_get, slice_set, unwrap_or, Option, Some, None, position, nat_lt, not, refl, sym, ap, ◌∙◌, cond, arith, eq-eqb, ne_eqb, lt-ltb, le-ltb, get_or, drop, zero-add, append_assoc, drop-cons, add-one, if◌then◌else◌}
+use Rattle.std.proofs.Common.{◌≡◌, ℕ, zero, suc, ◌+◌, ◌<◌, ◌≤◌, Bool, true, false, ◌||◌, ◌==◌, ◌≢◌, List, [], ◌∷◌, ◌++◌, length, replicate, flat_map, slice_get, slice_set, unwrap_or, position, not, refl, sym, ap, ◌∙◌, cond, arith, eq-eqb, ne_eqb, lt-ltb, le-ltb, get_or, drop, zero-add, append_assoc, drop-cons, add-one, if◌then◌else◌}
 use Rattle.std.specs.List.{list_any, position_or_len}
 use Rattle.std.proofs.Math.Bool.{or-false, or-true, or_assoc}
 use Rattle.std.proofs.lemmas.List.Folds.{list_any-append}

@@ -1,7 +1,7 @@
 -- Words of a line, joined.
 use Rattle.std.proofs.lemmas.List.{take_more}
 use Rattle.std.proofs.lemmas.List.Concat.{flat_map-append}
-use Rattle.std.proofs.Common.{◌≡◌, ℕ, ◌+◌, ◌<◌, length, get_or, take, Bool, true, false, List, [], ◌∷◌, ◌++◌, map, flat_map, codes, refl, sym, ap, ◌∙◌, append_assoc, append-nil}
+use Rattle.std.proofs.Common.{◌≡◌, ℕ, ◌+◌, ◌<◌, length, get_or, take, true, false, List, [], ◌∷◌, ◌++◌, map, flat_map, codes, refl, sym, ap, ◌∙◌, append_assoc, append-nil}
 use Rattle.il_model.specs.Forms.{FormWord, word, library_call, no_text}
 use Rattle.il_model.specs.Canonical.{Word, spaced, spaced_after, between, comma, angled_words, form_words}
 use Rattle.il_print.specs.Spaces.{behind}

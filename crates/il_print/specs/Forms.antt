@@ -1,5 +1,5 @@
 -- An instruction's bytes before and behind its operand. This project's own.
-use Rattle.std.specs.Prelude.{ℕ, Bool, true, false, List, [], ◌∷◌, codes}
+use Rattle.std.specs.Prelude.{Bool, true, false, [], ◌∷◌, codes}
 use Rattle.il_model.specs.Forms.{FormWord, word, library_call, no_text}
 use Rattle.il_model.specs.Canonical.{Word, spaced, spaced_after}
 

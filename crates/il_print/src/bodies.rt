@@ -1,5 +1,5 @@
 // Bodies of methods.
-ghost use Rattle.std.specs.Prelude.{◌≡◌, ◌++◌, [], ◌∷◌, codes, flat_map, OnOk, if◌then◌else◌};
+ghost use Rattle.std.specs.Prelude.{◌≡◌, ◌++◌, [], ◌∷◌, codes, OnOk, if◌then◌else◌};
 ghost use Rattle.il_model.specs.Canonical.{line, spaced, spaced_after, label_text, label_line, op_words, code_lines, clause_words, clause_lines, locals_line, body_lines, type_text};
 ghost use Rattle.il_model.specs.declared.method.Sort.TheVariants.{Catch};
 ghost use Rattle.il_print.specs.ClassNames.{names_of};

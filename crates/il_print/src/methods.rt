@@ -1,6 +1,6 @@
 // Fields and methods of a class.
 ghost use Rattle.std.specs.Prelude.{◌≡◌, ◌++◌, [], ◌∷◌, codes, OnOk, if◌then◌else◌};
-ghost use Rattle.il_model.specs.Canonical.{line, spaced, spaced_after, result_word, vars_words, field_line, shape_text, method_head, bodied_lines, method_lines, numbered_lines};
+ghost use Rattle.il_model.specs.Canonical.{line, spaced, spaced_after, field_line, shape_text, method_head, bodied_lines, method_lines, numbered_lines};
 ghost use Rattle.il_print.specs.ClassNames.{names_of};
 ghost use Rattle.il_print.specs.Parts.{lines_text, named_words};
 

@@ -1,4 +1,4 @@
-use Rattle.std.proofs.Common.{◌++◌, flat_map, sym, ap, ◌∙◌, arith}
+use Rattle.std.proofs.Common.{◌++◌, flat_map, sym, ap, ◌∙◌}
 use Rattle.std.proofs.lemmas.List.{take_all}
 use Rattle.il_model.specs.Canonical.{line, clause_words}
 use Rattle.il_print.specs.Parts.{lines_text}

@@ -1,4 +1,4 @@
-use Rattle.std.proofs.Common.{rules, ◌≡◌, ◌++◌, length, drop, sym, ap, ◌∙◌, arith}
+use Rattle.std.proofs.Common.{◌≡◌, ◌++◌, length, drop, sym, ap, ◌∙◌, arith}
 use Rattle.il_model.specs.Canonical.{code_lines}
 use Rattle.il_print.specs.Parts.{lines_text}
 use Rattle.il_print.proofs.LineLemmas.{next_op, all_ops}

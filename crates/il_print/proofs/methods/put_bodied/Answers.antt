@@ -1,4 +1,3 @@
-use Rattle.std.proofs.Common.{rules}
 use Rattle.il_model.specs.Canonical.{method_head}
 use Rattle.il_print.specs.ClassNames.{names_of}
 use Rattle.il_print.proofs.LineLemmas.{bodiless, bodied}

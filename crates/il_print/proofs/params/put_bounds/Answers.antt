@@ -1,4 +1,4 @@
-use Rattle.std.proofs.Common.{◌≡◌, ◌++◌, [], ◌∷◌, codes, sym, ap, ◌∙◌, append-nil}
+use Rattle.std.proofs.Common.{◌++◌, [], ◌∷◌, codes, sym, ap, ◌∙◌, append-nil}
 use Rattle.il_model.specs.Canonical.{type_text, spaced_after, bound_words}
 use Rattle.il_print.specs.ClassNames.{names_of}
 use Rattle.il_print.proofs.WordLemmas.{led_parts}

@@ -1,5 +1,5 @@
-use Rattle.std.proofs.Common.{◌≡◌, ◌++◌, [], ◌∷◌, codes, flat_map, take}
-use Rattle.il_model.specs.Canonical.{spaced_after, comma, param_words, var_words, type_text}
+use Rattle.std.proofs.Common.{◌≡◌, ◌++◌, ◌∷◌, flat_map, take}
+use Rattle.il_model.specs.Canonical.{spaced_after, comma, var_words}
 use Rattle.il_print.specs.ClassNames.{names_of}
 use Rattle.il_print.proofs.params.put_more_vars.Given as goal
 
