@@ -1,5 +1,9 @@
 // Why a text is no program.
+ghost use Rattle.std.specs.Prelude.{◌≡◌};
+ghost use Rattle.il_parse.specs.declared.fault.ReadError.TheVariants.{Memory};
+
 use il_text::{Spot, TextCause};
+use std::alloc::{AllocError, AllocFailed};
 
 /// Why a text is no program. `Text` is of the tokens and of the length; `Syntax`, `Unsupported` and
 /// `TooMany` are of the grammar and the limits; the others are of the look-up of names.
@@ -28,4 +32,34 @@ pub enum ParseCause {
 pub struct ParseFault {
     pub spot: Spot,
     pub cause: ParseCause,
+}
+
+/// A refusal at the token that begins at this byte, or at the end of the text.
+#[derive(Clone, Copy, Debug, PartialEq, Eq)]
+pub(crate) struct Fault {
+    pub at: Option<u32>,
+    pub cause: ParseCause,
+}
+
+/// A refusal, or want of memory.
+#[derive(Clone, Copy, Debug, PartialEq, Eq, Drop)]
+pub(crate) enum ReadError {
+    Memory,
+    Fault(Fault),
+}
+
+impl From<AllocError> for ReadError {
+    ghost from_gives = { λ _ e. e ≡ Memory };
+
+    fn from(_e: AllocError) -> ReadError {
+        ReadError::Memory
+    }
+}
+
+impl<T: Drop> From<AllocFailed<T>> for ReadError {
+    ghost from_gives = { λ _ e. e ≡ Memory };
+
+    fn from(_e: AllocFailed<T>) -> ReadError {
+        ReadError::Memory
+    }
 }
