@@ -5,3 +5,10 @@ pub mod Mnemonics
 pub mod Operands
 pub mod Bodies
 pub mod Classes
+pub mod Looking
+pub mod NamedTypes
+pub mod NamedOps
+pub mod NamedBodies
+pub mod SameTypes
+pub mod NamedClasses
+pub mod Answer
