@@ -1,0 +1,4 @@
+mod Steps
+mod Finding
+mod TypesSound
+mod PartsSound
