@@ -1,4 +1,6 @@
 mod Steps
 mod Finding
 mod TypesSound
+mod ListsSound
 mod PartsSound
+mod MembersSound

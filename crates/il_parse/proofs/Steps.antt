@@ -73,3 +73,22 @@ expected_if m ws u mid (absent none stays) e = refusal (stuck_fault ws) u mid (r
 pub expected : (m : List ℕ) (ws : List Lexeme) (u : Unit {0}) (mid : List Lexeme) → expect m ws ≡ Ok (u, mid) → Expected m ws mid
 unfolding expect
 expected m ws u mid e = expected_if m ws u mid (seen m ws) e
+
+-- what is read part after part is what is read
+pub joined : (ws front mid later back : List Lexeme) → ws ≡ front ++ mid → mid ≡ later ++ back → ws ≡ (front ++ later) ++ back
+joined ws front mid later back a b = a ∙ ap (λ r. front ++ r) b ∙ sym (append_assoc front later back)
+
+pub led : (ws : List Lexeme) (l : Lexeme) (mid later back : List Lexeme) → ws ≡ l ∷ mid → mid ≡ later ++ back → ws ≡ (l ∷ later) ++ back
+led ws l mid later back a b = a ∙ ap (λ r. l ∷ r) b
+
+-- a fact that follows from what each of two parts gives
+pub stepped : {A B C : Type 0} (r : Read A) (next : A → Reader B) (y : B) (back : List Lexeme) → and_then r next ≡ Ok (y, back) →
+    ((x : A) (mid : List Lexeme) → r ≡ Ok (x, mid) → next x mid ≡ Ok (y, back) → C) → C
+stepped (Ok p) next y back e go = go p.0 p.1 refl e
+stepped (Err f) next y back e go = refusal f y back e
+
+-- the same where a word or mark must stand first
+pub stepped_over : {B C : Type 0} (m : List ℕ) (ws : List Lexeme) (next : Unit {0} → Reader B) (y : B) (back : List Lexeme) → and_then (expect m ws) next ≡ Ok (y, back) →
+    ((l : Lexeme) (mid : List Lexeme) → ws ≡ l ∷ mid → Is m l → next tt mid ≡ Ok (y, back) → C) → C
+stepped_over m ws next y back e go =
+    stepped (expect m ws) next y back e (λ u mid e1 e2. let x = expected m ws u mid e1 in go x.token mid x.split x.same e2)

@@ -231,7 +231,7 @@ unfolding head_of
 behind_head inner sound n quoted left [] p back free e = refusal (stuck_fault []) p back e
 behind_head inner sound n quoted left (l ∷ ws) p back free e = headed_sound inner sound n quoted l left ws p back free (keyword_type l.bytes) refl e
 
-no_quoted : (ws : List Lexeme) → FreeOf [] ws
+pub no_quoted : (ws : List Lexeme) → FreeOf [] ws
 no_quoted [] = tt
 no_quoted (l ∷ ws) = refl
 
