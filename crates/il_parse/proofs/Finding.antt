@@ -1,8 +1,8 @@
 -- What is found in a list is in it.
 use Rattle.std.proofs.Common.{◌≡◌, ℕ, zero, suc, ◌+◌, ◌<◌, Bool, true, false, cond, List, [], ◌∷◌, length, Option, Some, None, refl, sym, ap, subst, ◌∙◌, bytes_eq, arith, find, Contains, option_map, is_some, slice_index_or, inl, inr}
 use Rattle.std.specs.Option.{unwrap_or}
-use Rattle.std.specs.List.{AllByRecursion, list_any}
-use Rattle.std.proofs.lemmas.Bool.{true≢false, cases_Bool}
+use Rattle.std.specs.List.{AllByRecursion, list_any, list_all}
+use Rattle.std.proofs.lemmas.Bool.{true≢false, cases_Bool, and_parts}
 use Rattle.std.proofs.lemmas.Slice.Eq.{bytes_eq-Decides}
 
 pub some_is : {A : Type 0} (x y : A) → Some x ≡ Some y → x ≡ y
@@ -54,3 +54,12 @@ none_found test (y ∷ xs) e =
 pub unmade : {X Y : Type 0} (f : X → Y) (o : Option X) → option_map f o ≡ None → o ≡ None
 unmade f None e = refl
 unmade f (Some x) e = none_is (f x) (sym e)
+
+-- a test that every item passes is passed by the one that is found
+pub found_passes : {X : Type 0} (p : X → Bool) (test : X → Bool) (xs : List X) (x : X) → list_all p xs ≡ true → find test xs ≡ Some x → p x ≡ true
+found_passes p test [] x all e = none_is x e
+found_passes p test (y ∷ xs) x all e =
+    let parts = and_parts (p y) (list_all p xs) all in
+    elim (cases_Bool (test y)) [
+      | inl hit ↦ subst (λ z. p z ≡ true) (some_is y x (ap (λ b. cond b (Some y) (find test xs)) (sym hit) ∙ e)) parts.0
+      | inr miss ↦ found_passes p test xs x parts.1 (ap (λ b. cond b (Some y) (find test xs)) (sym miss) ∙ e) ]

@@ -4,3 +4,7 @@ mod TypesSound
 mod ListsSound
 mod PartsSound
 mod MembersSound
+mod WordsSound
+mod OperandsSound
+mod InstrsSound
+mod BodiesSound

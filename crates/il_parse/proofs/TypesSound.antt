@@ -72,6 +72,18 @@ abbrev pub FreeOf : List (List ℕ) → List Lexeme → Type 0
 FreeOf quoted [] = Unit {0}
 FreeOf quoted (l ∷ ws) = is_among quoted l.bytes ≡ false
 
+pub positions-int32 : written_positions w.Int32 ≡ 1
+unfolding views.roll-WrittenType denote.Hole.Carrier.roll
+positions-int32 = fold-roll-WrittenType ℕ level_positions WrittenType-F.Int32
+
+pub positions-int64 : written_positions w.Int64 ≡ 1
+unfolding views.roll-WrittenType denote.Hole.Carrier.roll
+positions-int64 = fold-roll-WrittenType ℕ level_positions WrittenType-F.Int64
+
+pub positions-object : written_positions w.Object ≡ 1
+unfolding views.roll-WrittenType denote.Hole.Carrier.roll
+positions-object = fold-roll-WrittenType ℕ level_positions WrittenType-F.Object
+
 keyword_positions : AllByRecursion (λ (row : List ℕ × WrittenType). written_positions row.1 ≡ 1) type_words
 unfolding views.roll-WrittenType denote.Hole.Carrier.roll
 keyword_positions = (fold-roll-WrittenType ℕ level_positions WrittenType-F.Int32, (fold-roll-WrittenType ℕ level_positions WrittenType-F.Int64,
