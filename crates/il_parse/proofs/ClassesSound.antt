@@ -1,247 +1,191 @@
 -- What is read as classes is that of the grammar, within the limits, where calls are.
-use Rattle.std.proofs.Common.{◌≡◌, ℕ, zero, suc, ◌+◌, ◌-◌, ◌==◌, ◌<◌, ◌≤◌, Bool, true, false, not, ◌&&◌, if◌then◌else◌, is_none, List, [], ◌∷◌, ◌++◌, drop, length, map, flat_map, option_to_list, Option, Some, None, Ok, Err, refl, sym, ap, subst, ◌∙◌, codes, append_assoc, append-nil, bytes_eq, inl, inr, arith, find, Contains, option_map, All, slice_index_or}
+use Rattle.std.proofs.Common.{◌≡◌, ℕ, zero, suc, ◌+◌, ◌-◌, ◌==◌, ◌<◌, ◌≤◌, Bool, true, false, ◌&&◌, if◌then◌else◌, List, [], ◌∷◌, ◌++◌, drop, length, map, flat_map, option_to_list, Option, Some, None, Ok, Err, refl, sym, ap, subst, ◌∙◌, codes, append_assoc, append-nil, bytes_eq, inl, inr, arith, find, Contains, option_map, All, slice_index_or}
 use Rattle.std.specs.List.{AllByRecursion}
 use Rattle.std.proofs.lemmas.Bool.{true≢false, cases_Bool, and_parts, eqb-false}
+use Rattle.std.proofs.lemmas.List.{length-append}
 use Rattle.std.proofs.lemmas.Slice.Eq.{bytes_eq-Decides}
 use Rattle.il_model.specs.declared.class.ClassKind.{ClassKind}
 use Rattle.il_model.specs.declared.class.ClassKind.TheVariants as kind
-use Rattle.il_model.specs.declared.method.Shape.{Shape}
-use Rattle.il_model.specs.declared.method.Shape.TheVariants as shape
 use Rattle.il_model.specs.declared.written.WrittenName.{WrittenName}
 use Rattle.il_model.specs.declared.written.WrittenType.{WrittenType}
-use Rattle.il_model.specs.declared.written.WrittenParam.{WrittenParam}
 use Rattle.il_model.specs.declared.written.WrittenVar.{WrittenVar}
 use Rattle.il_model.specs.declared.written.WrittenBody.{WrittenBody}
 use Rattle.il_model.specs.declared.written.WrittenField.{WrittenField}
 use Rattle.il_model.specs.declared.written.WrittenMethod.{WrittenMethod}
 use Rattle.il_model.specs.declared.written.WrittenMember.{WrittenMember}
 use Rattle.il_model.specs.declared.written.WrittenMember.TheVariants as member
+use Rattle.il_model.specs.declared.written.WrittenClass.{WrittenClass}
 use Rattle.il_model.specs.Lexemes.{Lexeme, Is, IsName, name_at, Many, none, more}
-use Rattle.il_model.specs.Words.{kind_words, shape_words}
-use Rattle.il_model.specs.Bounds.{instrs_of, types_of_params, types_of_vars, types_of_body, types_of_method, fields_of, methods_of}
-use Rattle.il_model.specs.Types.{AreParams, no_vars}
-use Rattle.il_model.specs.Members.{unless_read}
-use Rattle.il_model.specs.Classes.{IsField, field, IsShape, instance, static, virtual, newslot, abstract, MayHaveVars, IsBodyOrNone, bodiless, braced, IsMethod, method, IsMember, field_member, method_member}
-use Rattle.il_model.specs.LookUp.{has_entry, MayBegin}
+use Rattle.il_model.specs.Words.{kind_words, quoted_words}
+use Rattle.il_model.specs.Bounds.{types_of_vars, types_of_method, types_of_class, fields_of, methods_of, all_methods}
+use Rattle.il_model.specs.Classes.{IsMember, field_member, method_member, IsKind, plain, worded, IsBase, no_base, base_of_plain, base_of_abstract, AreInterfaces, no_interfaces, interfaces, IsClass, class, IsProgram}
+use Rattle.il_model.specs.Types.{IsType, AreTypes, last_type, next_type}
 use Rattle.il_parse.specs.declared.fault.ParseCause.TheVariants as cause
-use Rattle.il_parse.specs.Reading.{Read, Reader, fault_at, stuck_fault, sees, expect, expect_at, read_name, read_name_but}
-use Rattle.il_parse.specs.Types.{read_type, read_result, read_params, read_enclosed}
-use Rattle.il_parse.specs.Members.{read_method_name}
+use Rattle.il_parse.specs.Reading.{Read, Reader, fault_at, stuck_fault, sees, expect, expect_at, read_name_but}
+use Rattle.il_parse.specs.Types.{read_type, read_types, read_vars}
 use Rattle.il_parse.specs.Operands.{read_call}
-use Rattle.il_parse.specs.Bodies.{read_body}
-use Rattle.il_parse.specs.Classes.{read_field, read_shape, most_method_vars, read_no_vars, read_method_vars, read_body_or_none, is_fixed, is_empty, may_begin_in, read_method, Members, members_from, read_members}
-use Rattle.il_parse.proofs.Finding.{none_is, some_is}
+use Rattle.il_parse.specs.Classes.{read_field, read_method, is_empty, Members, members_from, read_members, kind_or_plain, read_kind, has_base, read_base, read_interfaces, most_class_vars, read_class, classes_from}
+use Rattle.il_parse.proofs.Finding.{found_in, made}
 use Rattle.il_parse.proofs.Steps.{Took, Sound, refusal, value_of, rest_of, stepped, stepped_over, seen, Seen, there, absent, joined, led}
-use Rattle.il_parse.proofs.TypesSound.{FreeOf, no_quoted}
-use Rattle.il_parse.proofs.ListsSound.{type_sound, NameRead, name_sound, IsBoth, AreSmall, small-append}
-use Rattle.il_parse.proofs.PartsSound.{optional, free_more, result_sound, IsVars, vars_sound, params_sound, enclosed_sound, enclosed_joined, Enclosed}
-use Rattle.il_parse.proofs.MembersSound.{method_name_sound}
+use Rattle.il_parse.proofs.TypesSound.{no_quoted}
+use Rattle.il_parse.proofs.ListsSound.{type_sound, NameRead, name_sound, IsBoth, AreSmall, small-append, types_sound}
+use Rattle.il_parse.proofs.PartsSound.{IsVars, vars_sound}
 use Rattle.il_parse.proofs.InstrsSound.{IsCalled}
-use Rattle.il_parse.proofs.BodiesSound.{BodyRead, body_sound}
+use Rattle.il_parse.proofs.MethodsSound.{type_of_field, field_sound, MethodFine, MethodRead, method_sound, place_read}
 
-abbrev pub type_of_field : WrittenField → List WrittenType
-type_of_field f = f.kind ∷ []
+-- members that were read behind those found, with the number of methods that may still come
+pub record MembersRead (plain_class : Bool) (left : ℕ) (found : List WrittenMember) (ws : List Lexeme) (ys : Members) (back : List Lexeme) : Type 0 where
+  pub front : List Lexeme
+  pub items : List WrittenMember
+  pub split : ws ≡ front ++ back
+  pub all : ys.0 ≡ found ++ items
+  pub are : Many IsMember front items
+  pub fields : AllByRecursion (λ (f : WrittenField). AreSmall (type_of_field f)) (fields_of items)
+  pub methods : AllByRecursion (MethodFine plain_class) (methods_of items)
+  pub count : length (methods_of items) + ys.1 ≡ left
 
-pub field_sound : Sound read_field (IsBoth IsField type_of_field)
-unfolding read_field read_name
-field_sound ws f back e =
-    stepped_over (codes ".field") ws _ f back e (λ word ws1 s0 h0 f0.
-    let o = optional (codes "static") ws1 in
-    stepped (read_type o.rest) _ f back (rw (o.seen_as, o.left) at f0) (λ t ws2 e1 f1.
-    stepped (read_name_but [] ws2) _ f back f1 (λ name ws3 e2 f2.
-    let k = type_sound (unless_read o.is_there (codes "static")) o.rest t ws2 o.free e1 in
-    let n = name_sound [] ws2 name ws3 e2 in
-    let made : WrittenField = record { fixed = o.is_there; kind = t; name = name } in
-    let named : WrittenField = record { fixed = o.is_there; kind = t; name = name_at n.token } in
-    let same : named ≡ f = ap (λ (m : WrittenName). record { fixed = o.is_there; kind = t; name = m }) (sym n.at) ∙ value_of made f ws3 back f2 in
-    let whole : List Lexeme = word ∷ o.front ++ k.front ++ n.token ∷ [] in
-    let t1 = led ws word ws1 o.front o.rest s0 o.split in
-    let t2 = joined ws (word ∷ o.front) o.rest k.front ws2 t1 k.split in
-    record {
-      front = whole;
-      split = joined ws (word ∷ o.front ++ k.front) ws2 (n.token ∷ []) back t2 (n.split ∙ ap (λ z. n.token ∷ z) (rest_of made f ws3 back f2));
-      holds = subst (IsBoth IsField type_of_field whole) same
-          (record { is = field whole o.front k.front word n.token o.is_there t refl h0 o.holds k.holds.is n.is; small = (k.holds.small, tt) });
-    })))
-
--- how a method is called, with the words that are quoted behind it
-record ShapeRead (ws : List Lexeme) (s : Shape) (back : List Lexeme) : Type 0 where
-  front : List Lexeme
-  quoted : List (List ℕ)
-  split : ws ≡ front ++ back
-  is : IsShape front s quoted
-  free : FreeOf quoted back
-
-one_word : (m : List ℕ) (t : Shape) (ws : List Lexeme) (l : Lexeme) (rest : List Lexeme) (s : Shape) (back : List Lexeme) → ws ≡ l ∷ rest →
-    IsShape (l ∷ []) t [] → (let r : Read Shape = Ok (t, drop 1 ws) in r ≡ Ok (s, back)) → ShapeRead ws s back
-one_word m t ws l rest s back split is e = record {
-  front = l ∷ [];
-  quoted = [];
-  split = split ∙ ap (λ z. l ∷ z) (sym (ap (drop 1) split) ∙ rest_of t s (drop 1 ws) back e);
-  is = subst (λ u. IsShape (l ∷ []) u []) (value_of t s (drop 1 ws) back e) is;
-  free = no_quoted back;
+no_members : (plain_class : Bool) (left : ℕ) (found : List WrittenMember) (ws : List Lexeme) (ys : Members) (back : List Lexeme) →
+    (let r : Read Members = Ok ((found, left), ws) in r ≡ Ok (ys, back)) → MembersRead plain_class left found ws ys back
+no_members plain_class left found ws ys back e = record {
+  front = [];
+  items = [];
+  split = rest_of (found, left) ys ws back e;
+  all = ap (λ p. p.0) (sym (value_of (found, left) ys ws back e)) ∙ sym (append-nil found);
+  are = none;
+  fields = tt;
+  methods = tt;
+  count = omega (arith, ap (λ p. p.1) (value_of (found, left) ys ws back e));
 }
 
-pub shape_sound : (ws : List Lexeme) (s : Shape) (back : List Lexeme) → read_shape ws ≡ Ok (s, back) → ShapeRead ws s back
-unfolding read_shape
-shape_sound ws s back e =
-    elim (seen (codes "static") ws) [
-      | there l rest split same hit behind ↦ one_word (codes "static") shape.Fixed ws l rest s back split (static l same) (rw hit at e)
-      | absent no_static stays ↦ elim (seen (codes "virtual") ws) [
-        | there l rest split same hit behind ↦ one_word (codes "virtual") shape.Virtual ws l rest s back split (virtual l same) (rw (no_static, hit) at e)
-        | absent no_virtual stays2 ↦ elim (seen (codes "newslot") ws) [
-          | there l rest split same hit behind ↦
-            stepped_over (codes "virtual") (drop 1 ws) _ s back (rw (no_static, no_virtual, hit) at e) (λ m mid s1 h1 f1.
-            record {
-              front = l ∷ m ∷ [];
-              quoted = [];
-              split = split ∙ ap (λ z. l ∷ z) (sym (ap (drop 1) split) ∙ s1 ∙ ap (λ z. m ∷ z) (rest_of shape.NewSlot s mid back f1));
-              is = subst (λ u. IsShape (l ∷ m ∷ []) u []) (value_of shape.NewSlot s mid back f1) (newslot l m same h1);
-              free = no_quoted back;
-            })
-          | absent no_newslot stays3 ↦ elim (seen (codes "abstract") ws) [
-            | there l rest split same hit behind ↦
-              one_word (codes "abstract") shape.Abstract ws l rest s back split (abstract l same) (rw (no_static, no_virtual, no_newslot, hit) at e)
-            | absent no_abstract stays4 ↦
-              let e2 : (let r : Read Shape = Ok (shape.Instance, ws) in r ≡ Ok (s, back)) = rw (no_static, no_virtual, no_newslot, no_abstract) at e in
+module _ (call_sound : Sound read_call IsCalled) where
+  members_sound : (plain_class : Bool) (n left : ℕ) (found : List WrittenMember) (ws : List Lexeme) (ys : Members) (back : List Lexeme) →
+      members_from plain_class n left found ws ≡ Ok (ys, back) → MembersRead plain_class left found ws ys back
+  unfolding members_from
+  members_sound plain_class zero left found ws ys back e = no_members plain_class left found ws ys back e
+  members_sound plain_class (suc n) left found ws ys back e =
+      elim (cases_Bool (sees (codes ".field") ws)) [
+        | inl hit ↦
+          stepped (read_field ws) _ ys back (rw hit at e) (λ f mid e0 f0.
+          let t = field_sound ws f mid e0 in
+          let m = members_sound plain_class n left (found ++ member.Field f ∷ []) mid ys back f0 in
+          record {
+            front = t.front ++ m.front;
+            items = member.Field f ∷ m.items;
+            split = joined ws t.front mid m.front back t.split m.split;
+            all = m.all ∙ append_assoc found (member.Field f ∷ []) m.items;
+            are = more (t.front ++ m.front) t.front m.front (member.Field f) m.items refl (field_member t.front f t.holds.is) m.are;
+            fields = (t.holds.small, m.fields);
+            methods = m.methods;
+            count = m.count;
+          })
+        | inr no_field ↦ elim (cases_Bool (sees (codes ".method") ws)) [
+          | inl hit ↦ elim (cases_Bool (left == 0)) [
+            | inl full ↦ refusal (fault_at ws cause.TooMany) ys back (rw (no_field, hit, full) at e)
+            | inr room ↦
+              stepped (read_method plain_class ws) _ ys back (rw (no_field, hit, room) at e) (λ d mid e0 f0.
+              let t = method_sound call_sound plain_class ws d mid e0 in
+              let m = members_sound plain_class n (left - 1) (found ++ member.Method d ∷ []) mid ys back f0 in
               record {
-                front = [];
-                quoted = shape_words;
-                split = rest_of shape.Instance s ws back e2;
-                is = subst (λ u. IsShape [] u shape_words) (value_of shape.Instance s ws back e2) instance;
-                free = subst (FreeOf shape_words) (rest_of shape.Instance s ws back e2)
-                    (free_more (codes "static") (codes "virtual" ∷ codes "newslot" ∷ codes "abstract" ∷ []) ws no_static
-                    (free_more (codes "virtual") (codes "newslot" ∷ codes "abstract" ∷ []) ws no_virtual
-                    (free_more (codes "newslot") (codes "abstract" ∷ []) ws no_newslot
-                    (free_more (codes "abstract") [] ws no_abstract (no_quoted ws)))));
-              } ] ] ] ]
+                front = t.front ++ m.front;
+                items = member.Method d ∷ m.items;
+                split = joined ws t.front mid m.front back t.split m.split;
+                all = m.all ∙ append_assoc found (member.Method d ∷ []) m.items;
+                are = more (t.front ++ m.front) t.front m.front (member.Method d) m.items refl (method_member t.front d t.holds.is) m.are;
+                fields = m.fields;
+                methods = (t.holds.fine, m.methods);
+                count = omega (arith, m.count, eqb-false left 0 room);
+              }) ]
+          | inr no_method ↦ no_members plain_class left found ws ys back (rw (no_field, no_method) at e) ] ]
 
--- type variables that a method of this shape may have
-record MethodVars (s : Shape) (ws : List Lexeme) (vs : List WrittenVar) : Type 0 where
-  are : IsVars 2 ws vs
-  may : MayHaveVars s vs
+kind_made : (o : Option ClassKind) (l : Lexeme) (ws : List Lexeme) (k : ClassKind) (back : List Lexeme) →
+    ((j : ClassKind) → o ≡ Some j → IsKind (l ∷ []) j) → kind_or_plain o l ws ≡ Ok (k, back) → Took IsKind (l ∷ ws) k back
+kind_made (Some j) l ws k back is e = record {
+  front = l ∷ [];
+  split = ap (λ z. l ∷ z) (rest_of j k ws back e);
+  holds = subst (IsKind (l ∷ [])) (value_of j k ws back e) (is j refl);
+}
+kind_made None l ws k back is e =
+    record { front = []; split = rest_of kind.Plain k (l ∷ ws) back e; holds = subst (IsKind []) (value_of kind.Plain k (l ∷ ws) back e) plain }
 
-no_vars_sound : (s : Shape) → ((vs : List WrittenVar) → vs ≡ [] → MayHaveVars s vs) → Sound read_no_vars (MethodVars s)
-no_vars_sound s may ws vs back e =
-    elim (cases_Bool (sees (codes "<") ws)) [
-      | inl hit ↦ refusal (fault_at ws cause.Unsupported) vs back (rw hit at e)
+word_of_kind : (l : Lexeme) (j : ClassKind) → option_map (λ row. row.1) (find (λ row. bytes_eq row.0 l.bytes) kind_words) ≡ Some j → IsKind (l ∷ []) j
+word_of_kind l j e =
+    let m = made (λ row. row.1) (find (λ row. bytes_eq row.0 l.bytes) kind_words) j e in
+    let f = found_in (λ row. bytes_eq row.0 l.bytes) kind_words m.item m.found in
+    worded l j (subst (λ b. Contains kind_words (b, j)) ((bytes_eq-Decides m.item.0 l.bytes).0 f.1) (subst (λ u. Contains kind_words (m.item.0, u)) m.gives f.0))
+
+pub kind_sound : Sound read_kind IsKind
+unfolding read_kind
+kind_sound [] k back e = record { front = []; split = rest_of kind.Plain k [] back e; holds = subst (IsKind []) (value_of kind.Plain k [] back e) plain }
+kind_sound (l ∷ ws) k back e =
+    kind_made (option_map (λ row. row.1) (find (λ row. bytes_eq row.0 l.bytes) kind_words)) l ws k back (word_of_kind l) e
+
+base_of_kind : (k : ClassKind) → has_base k ≡ true → (l : Lexeme) (ws : List Lexeme) (t : WrittenType) → Is (codes "extends") l → IsType [] ws t → IsBase k (l ∷ ws) (Some t)
+base_of_kind kind.Plain has l ws t same is = base_of_plain l ws t same is
+base_of_kind kind.Abstract has l ws t same is = base_of_abstract l ws t same is
+base_of_kind kind.Interface has l ws t same is = absurd (true≢false (sym has))
+base_of_kind kind.Struct has l ws t same is = absurd (true≢false (sym has))
+base_of_kind kind.Delegate has l ws t same is = absurd (true≢false (sym has))
+
+pub base_sound : (k : ClassKind) → Sound (read_base k) (IsBoth (IsBase k) option_to_list)
+unfolding read_base
+base_sound k ws o back e =
+    elim (cases_Bool (has_base k && sees (codes "extends") ws)) [
+      | inl hit ↦ elim (seen (codes "extends") ws) [
+        | there l rest split same found behind ↦
+          stepped (read_type (drop 1 ws)) _ o back (rw hit at e) (λ t mid e0 f0.
+          let s = type_sound [] (drop 1 ws) t mid (no_quoted (drop 1 ws)) e0 in
+          record {
+            front = l ∷ s.front;
+            split = split ∙ ap (λ z. l ∷ z) (sym (ap (drop 1) split) ∙ s.split ∙ ap (λ z. s.front ++ z) (rest_of (Some t) o mid back f0));
+            holds = subst (IsBoth (IsBase k) option_to_list (l ∷ s.front)) (value_of (Some t) o mid back f0) (record {
+              is = base_of_kind k (and_parts (has_base k) (sees (codes "extends") ws) hit).0 l s.front t same s.holds.is;
+              small = (s.holds.small, tt);
+            });
+          })
+        | absent miss stays ↦ absurd (true≢false (sym (and_parts (has_base k) (sees (codes "extends") ws) hit).1 ∙ miss)) ]
       | inr miss ↦
-        let e2 : (let r : Read (List WrittenVar) = Ok ([], ws) in r ≡ Ok (vs, back)) = rw miss at e in
+        let e2 : (let r : Read (Option WrittenType) = Ok (None, ws) in r ≡ Ok (o, back)) = rw miss at e in
         record {
           front = [];
-          split = rest_of [] vs ws back e2;
-          holds = subst (MethodVars s []) (value_of [] vs ws back e2)
-              (record { are = record { is = no_vars; small = tt; few = omega arith }; may = may [] refl });
+          split = rest_of None o ws back e2;
+          holds = subst (IsBoth (IsBase k) option_to_list []) (value_of None o ws back e2) (record { is = no_base k; small = tt });
         } ]
 
-some_vars_sound : (s : Shape) → ((vs : List WrittenVar) → MayHaveVars s vs) → (ws : List Lexeme) (vs : List WrittenVar) (back : List Lexeme) →
-    Took (IsVars 2) ws vs back → Took (MethodVars s) ws vs back
-some_vars_sound s may ws vs back t = record { front = t.front; split = t.split; holds = record { are = t.holds; may = may vs } }
+listed_interfaces : (l : Lexeme) (ws : List Lexeme) (ts : List WrittenType) → Is (codes "implements") l → AreTypes (codes ",") ws ts → AreInterfaces (l ∷ ws) ts
+listed_interfaces l ws ts same (last_type mark inner t is) = interfaces l ws t [] same (last_type (codes ",") ws t is)
+listed_interfaces l ws ts same (next_type mark inner f b c t us split is m rest) = interfaces l ws t us same (next_type (codes ",") ws f b c t us split is m rest)
 
-method_vars_sound : (s : Shape) → Sound (read_method_vars s) (MethodVars s)
-unfolding read_method_vars
-method_vars_sound shape.Fixed ws vs back e = some_vars_sound shape.Fixed (λ _. tt) ws vs back (vars_sound 2 ws vs back e)
-method_vars_sound shape.Instance ws vs back e = some_vars_sound shape.Instance (λ _. tt) ws vs back (vars_sound 2 ws vs back e)
-method_vars_sound shape.Virtual ws vs back e = no_vars_sound shape.Virtual (λ _ is. is) ws vs back e
-method_vars_sound shape.NewSlot ws vs back e = no_vars_sound shape.NewSlot (λ _ is. is) ws vs back e
-method_vars_sound shape.Abstract ws vs back e = no_vars_sound shape.Abstract (λ _ is. is) ws vs back e
-
--- a body that is read, or none
-record BodyOrNone (may_begin : Bool) (ws : List Lexeme) (b : Option WrittenBody) : Type 0 where
-  is : IsBodyOrNone ws b
-  small : AreSmall (flat_map types_of_body (option_to_list b))
-  few : AllByRecursion (λ (c : WrittenBody). length (instrs_of c.lines) ≤ 16384) (option_to_list b)
-  begins : (at : ℕ) → Contains (flat_map (λ (c : WrittenBody). option_to_list c.entry) (option_to_list b)) at → may_begin ≡ true
-
-no_item : {A C : Type 0} (x : A) → Contains [] x → C
-no_item x (k, inside, is) = absurd (omega (arith, inside))
-
-entry_begins : (may_begin : Bool) (o : Option ℕ) → ((at : ℕ) → o ≡ Some at → may_begin ≡ true) → (at : ℕ) → Contains (option_to_list o ++ []) at → may_begin ≡ true
-entry_begins may_begin None begins at c = no_item at c
-entry_begins may_begin (Some found) begins at c = begins found refl
-
-body_or_none_sound : Sound read_call IsCalled → (may_begin : Bool) → Sound (read_body_or_none may_begin) (BodyOrNone may_begin)
-unfolding read_body_or_none
-body_or_none_sound call_sound may_begin ws o back e =
-    elim (seen (codes ";") ws) [
+pub interfaces_sound : Sound read_interfaces (IsBoth AreInterfaces (λ ts. ts))
+unfolding read_interfaces
+interfaces_sound ws ts back e =
+    elim (seen (codes "implements") ws) [
       | there l rest split same hit behind ↦
-        let e2 : (let r : Read (Option WrittenBody) = Ok (None, rest) in r ≡ Ok (o, back)) = rw (hit, behind) at e in
+        let s = types_sound (codes ",") rest ts back (rw (hit, behind) at e) in
         record {
-          front = l ∷ [];
-          split = split ∙ ap (λ z. l ∷ z) (rest_of None o rest back e2);
-          holds = subst (BodyOrNone may_begin (l ∷ [])) (value_of None o rest back e2)
-              (record { is = bodiless l same; small = tt; few = tt; begins = λ at c. no_item at c });
+          front = l ∷ s.front;
+          split = split ∙ ap (λ z. l ∷ z) s.split;
+          holds = record { is = listed_interfaces l s.front ts same s.holds.is; small = s.holds.small };
         }
       | absent miss stays ↦
-        stepped_over (codes "{") ws _ o back (rw (miss, stays) at e) (λ left ws1 s0 h0 f0.
-        stepped (read_body may_begin ws1) _ o back f0 (λ b ws2 e1 f1.
-        stepped_over (codes "}") ws2 _ o back f1 (λ right ws3 s2 h2 f2.
-        let t = body_sound call_sound may_begin ws1 b ws2 e1 in
-        let whole : List Lexeme = left ∷ t.front ++ right ∷ [] in
+        let e2 : (let r : Read (List WrittenType) = Ok ([], ws) in r ≡ Ok (ts, back)) = rw (miss, stays) at e in
         record {
-          front = whole;
-          split = led ws left ws1 (t.front ++ right ∷ []) back s0
-              (joined ws1 t.front ws2 (right ∷ []) back t.split (s2 ∙ ap (λ z. right ∷ z) (rest_of (Some b) o ws3 back f2)));
-          holds = subst (BodyOrNone may_begin whole) (value_of (Some b) o ws3 back f2) (record {
-            is = braced whole t.front left right b refl h0 t.holds.is h2;
-            small = small-append (types_of_body b) [] t.holds.small tt;
-            few = (t.holds.few, tt);
-            begins = entry_begins may_begin b.entry t.holds.begins;
-          });
-        }))) ]
+          front = [];
+          split = rest_of [] ts ws back e2;
+          holds = subst (IsBoth AreInterfaces (λ us. us) []) (value_of [] ts ws back e2) (record { is = no_interfaces; small = tt });
+        } ]
 
--- a written method within its limits, in a class without type variables or with some
-pub record MethodFine (plain_class : Bool) (m : WrittenMethod) : Type 0 where
-  pub small : AreSmall (types_of_method m)
-  pub vars : length m.vars ≤ 2
-  pub instrs : AllByRecursion (λ (c : WrittenBody). length (instrs_of c.lines) ≤ 16384) (option_to_list m.body)
-  pub begins : (at : ℕ) → Contains (has_entry m) at → (plain_class ≡ true) × MayBegin m
+-- a class that was read, within the limits, where so many methods could come
+pub record ClassRead (left : ℕ) (ws : List Lexeme) (p : WrittenClass × ℕ) : Type 0 where
+  pub is : IsClass ws p.0
+  pub small : AreSmall (types_of_class p.0)
+  pub vars : length p.0.vars ≤ 3
+  pub methods : AllByRecursion (MethodFine (is_empty p.0.vars)) (methods_of p.0.members)
+  pub count : length (methods_of p.0.members) + p.1 ≡ left
 
-pub record MethodRead (plain_class : Bool) (ws : List Lexeme) (m : WrittenMethod) : Type 0 where
-  pub is : IsMethod ws m
-  pub fine : MethodFine plain_class m
+small_fields : (fs : List WrittenField) → AllByRecursion (λ (f : WrittenField). AreSmall (type_of_field f)) fs → AreSmall (map (λ f. f.kind) fs)
+small_fields [] all = tt
+small_fields (f ∷ fs) all = (all.0.0, small_fields fs all.1)
 
-fixed_is : (s : Shape) → is_fixed s ≡ true → s ≡ shape.Fixed
-fixed_is shape.Fixed e = refl
-fixed_is shape.Instance e = absurd (true≢false (sym e))
-fixed_is shape.Virtual e = absurd (true≢false (sym e))
-fixed_is shape.NewSlot e = absurd (true≢false (sym e))
-fixed_is shape.Abstract e = absurd (true≢false (sym e))
-
-pub empty_is : {A : Type 0} (xs : List A) → is_empty xs ≡ true → xs ≡ []
-empty_is [] e = refl
-empty_is (x ∷ xs) e = absurd (true≢false (sym e))
-
-none_is_none : {A : Type 0} (o : Option A) → is_none o ≡ true → o ≡ None
-none_is_none None e = refl
-none_is_none (Some x) e = absurd (true≢false (sym e))
-
-may_begin_means : (plain_class : Bool) (m : WrittenMethod) → may_begin_in plain_class m.shape m.result m.vars m.params ≡ true → (plain_class ≡ true) × MayBegin m
-may_begin_means plain_class m e =
-    let a = and_parts (plain_class && is_fixed m.shape && is_none m.result && is_empty m.vars) (is_empty m.params) e in
-    let b = and_parts (plain_class && is_fixed m.shape && is_none m.result) (is_empty m.vars) a.0 in
-    let c = and_parts (plain_class && is_fixed m.shape) (is_none m.result) b.0 in
-    let d = and_parts plain_class (is_fixed m.shape) c.0 in
-    (d.0, record { fixed = fixed_is m.shape d.1; vars = empty_is m.vars b.1; params = empty_is m.params a.1; void = none_is_none m.result c.1 })
-
--- the place of a word that must stand in front
-pub record PlaceRead (m : List ℕ) (ws : List Lexeme) (at : ℕ) (mid : List Lexeme) : Type 0 where
-  pub token : Lexeme
-  pub split : ws ≡ token ∷ mid
-  pub same : Is m token
-  pub place : at ≡ token.at
-
-pub place_read : (m : List ℕ) (ws : List Lexeme) (at : ℕ) (mid : List Lexeme) → expect_at m ws ≡ Ok (at, mid) → PlaceRead m ws at mid
-unfolding expect_at
-place_read m [] at mid e = refusal (stuck_fault []) at mid e
-place_read m (l ∷ ws) at mid e =
-    elim (cases_Bool (bytes_eq m l.bytes)) [
-      | inl hit ↦
-        let e2 : (let r : Read ℕ = Ok (l.at, ws) in r ≡ Ok (at, mid)) = rw hit at e in
-        record {
-          token = l;
-          split = ap (λ z. l ∷ z) (rest_of l.at at ws mid e2);
-          same = sym ((bytes_eq-Decides m l.bytes).0 hit);
-          place = sym (value_of l.at at ws mid e2);
-        }
-      | inr miss ↦ refusal (stuck_fault (l ∷ ws)) at mid (rw miss at e) ]
+small_methods : (plain_class : Bool) (ms : List WrittenMethod) → AllByRecursion (MethodFine plain_class) ms → AreSmall (flat_map types_of_method ms)
+small_methods plain_class [] all = tt
+small_methods plain_class (m ∷ ms) all = small-append (types_of_method m) (flat_map types_of_method ms) all.0.small (small_methods plain_class ms all.1)

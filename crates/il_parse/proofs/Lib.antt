@@ -8,3 +8,4 @@ mod WordsSound
 mod OperandsSound
 mod InstrsSound
 mod BodiesSound
+mod MethodsSound
