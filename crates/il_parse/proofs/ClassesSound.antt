@@ -189,3 +189,55 @@ small_fields (f ∷ fs) all = (all.0.0, small_fields fs all.1)
 small_methods : (plain_class : Bool) (ms : List WrittenMethod) → AllByRecursion (MethodFine plain_class) ms → AreSmall (flat_map types_of_method ms)
 small_methods plain_class [] all = tt
 small_methods plain_class (m ∷ ms) all = small-append (types_of_method m) (flat_map types_of_method ms) all.0.small (small_methods plain_class ms all.1)
+
+pub class_sound : Sound read_call IsCalled → (left : ℕ) → Sound (read_class left) (ClassRead left)
+unfolding read_class read_members
+class_sound call_sound left ws p back e =
+    stepped (expect_at (codes ".class") ws) _ p back e (λ at ws1 e0 f0.
+    stepped (read_kind ws1) _ p back f0 (λ k ws2 e1 f1.
+    stepped (read_name_but quoted_words ws2) _ p back f1 (λ name ws3 e2 f2.
+    stepped (read_vars most_class_vars ws3) _ p back f2 (λ vars ws4 e3 f3.
+    stepped (read_base k ws4) _ p back f3 (λ base ws5 e4 f4.
+    stepped (read_interfaces ws5) _ p back f4 (λ interfaces ws6 e5 f5.
+    stepped_over (codes "{") ws6 _ p back f5 (λ opening ws7 s6 h6 f6.
+    stepped (read_members (is_empty vars) left ws7) _ p back f6 (λ members ws8 e7 f7.
+    stepped_over (codes "}") ws8 _ p back f7 (λ closing ws9 s8 h8 f8.
+    let a = place_read (codes ".class") ws at ws1 e0 in
+    let b = kind_sound ws1 k ws2 e1 in
+    let n = name_sound quoted_words ws2 name ws3 e2 in
+    let v = vars_sound 3 ws3 vars ws4 e3 in
+    let x = base_sound k ws4 base ws5 e4 in
+    let i = interfaces_sound ws5 interfaces ws6 e5 in
+    let m = members_sound call_sound (is_empty vars) (length ws7) left [] ws7 members ws8 e7 in
+    let made : WrittenClass × ℕ =
+        (record { at = at; kind = k; name = name; vars = vars; base = base; interfaces = interfaces; members = members.0 }, members.1) in
+    let named : WrittenClass × ℕ =
+        (record { at = a.token.at; kind = k; name = name_at n.token; vars = vars; base = base; interfaces = interfaces; members = m.items }, members.1) in
+    let whole : List Lexeme = a.token ∷ b.front ++ n.token ∷ v.front ++ x.front ++ i.front ++ opening ∷ m.front ++ closing ∷ [] in
+    let same : named ≡ made =
+        ap (λ (y : ℕ). (record { at = y; kind = k; name = name_at n.token; vars = vars; base = base; interfaces = interfaces; members = m.items }, members.1)) (sym a.place)
+        ∙ ap (λ (y : WrittenName). (record { at = at; kind = k; name = y; vars = vars; base = base; interfaces = interfaces; members = m.items }, members.1)) (sym n.at)
+        ∙ ap (λ (y : List WrittenMember). (record { at = at; kind = k; name = name; vars = vars; base = base; interfaces = interfaces; members = y }, members.1)) (sym m.all) in
+    let t1 = led ws a.token ws1 b.front ws2 a.split b.split in
+    let t2 = joined ws (a.token ∷ b.front) ws2 (n.token ∷ v.front) ws4 t1 (led ws2 n.token ws3 v.front ws4 n.split v.split) in
+    let t3 = joined ws (a.token ∷ b.front ++ n.token ∷ v.front) ws4 x.front ws5 t2 x.split in
+    let t4 = joined ws (a.token ∷ b.front ++ n.token ∷ v.front ++ x.front) ws5 i.front ws6 t3 i.split in
+    let t5 = joined ws (a.token ∷ b.front ++ n.token ∷ v.front ++ x.front ++ i.front) ws6 (opening ∷ m.front) ws8 t4 (led ws6 opening ws7 m.front ws8 s6 m.split) in
+    let t6 = joined ws (a.token ∷ b.front ++ n.token ∷ v.front ++ x.front ++ i.front ++ opening ∷ m.front) ws8 (closing ∷ []) ws9 t5 s8 in
+    record {
+      front = whole;
+      split = t6 ∙ ap (λ z. whole ++ z) (rest_of made p ws9 back f8);
+      holds = subst (ClassRead left whole) (same ∙ value_of made p ws9 back f8) (record {
+        is = class whole b.front v.front x.front i.front m.front a.token n.token opening closing k vars base interfaces m.items
+            refl a.same b.holds n.is v.holds.is x.holds.is i.holds.is h6 m.are h8;
+        small = small-append (types_of_vars vars ++ option_to_list base ++ interfaces ++ map (λ f. f.kind) (fields_of m.items)) (flat_map types_of_method (methods_of m.items))
+            (small-append (types_of_vars vars ++ option_to_list base ++ interfaces) (map (λ f. f.kind) (fields_of m.items))
+                (small-append (types_of_vars vars ++ option_to_list base) interfaces
+                    (small-append (types_of_vars vars) (option_to_list base) v.holds.small x.holds.small) i.holds.small)
+                (small_fields (fields_of m.items) m.fields))
+            (small_methods (is_empty vars) (methods_of m.items) m.methods);
+        vars = v.holds.few;
+        methods = m.methods;
+        count = m.count;
+      });
+    })))))))))

@@ -9,3 +9,5 @@ mod OperandsSound
 mod InstrsSound
 mod BodiesSound
 mod MethodsSound
+mod ClassesSound
+mod ProgramsSound

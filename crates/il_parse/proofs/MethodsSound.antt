@@ -65,12 +65,12 @@ field_sound ws f back e =
     })))
 
 -- how a method is called, with the words that are quoted behind it
-record ShapeRead (ws : List Lexeme) (s : Shape) (back : List Lexeme) : Type 0 where
-  front : List Lexeme
-  quoted : List (List ℕ)
-  split : ws ≡ front ++ back
-  is : IsShape front s quoted
-  free : FreeOf quoted back
+pub record ShapeRead (ws : List Lexeme) (s : Shape) (back : List Lexeme) : Type 0 where
+  pub front : List Lexeme
+  pub quoted : List (List ℕ)
+  pub split : ws ≡ front ++ back
+  pub is : IsShape front s quoted
+  pub free : FreeOf quoted back
 
 one_word : (m : List ℕ) (t : Shape) (ws : List Lexeme) (l : Lexeme) (rest : List Lexeme) (s : Shape) (back : List Lexeme) → ws ≡ l ∷ rest →
     IsShape (l ∷ []) t [] → (let r : Read Shape = Ok (t, drop 1 ws) in r ≡ Ok (s, back)) → ShapeRead ws s back
@@ -117,9 +117,9 @@ shape_sound ws s back e =
               } ] ] ] ]
 
 -- type variables that a method of this shape may have
-record MethodVars (s : Shape) (ws : List Lexeme) (vs : List WrittenVar) : Type 0 where
-  are : IsVars 2 ws vs
-  may : MayHaveVars s vs
+pub record MethodVars (s : Shape) (ws : List Lexeme) (vs : List WrittenVar) : Type 0 where
+  pub are : IsVars 2 ws vs
+  pub may : MayHaveVars s vs
 
 no_vars_sound : (s : Shape) → ((vs : List WrittenVar) → vs ≡ [] → MayHaveVars s vs) → Sound read_no_vars (MethodVars s)
 no_vars_sound s may ws vs back e =
@@ -147,11 +147,11 @@ method_vars_sound shape.NewSlot ws vs back e = no_vars_sound shape.NewSlot (λ _
 method_vars_sound shape.Abstract ws vs back e = no_vars_sound shape.Abstract (λ _ is. is) ws vs back e
 
 -- a body that is read, or none
-record BodyOrNone (may_begin : Bool) (ws : List Lexeme) (b : Option WrittenBody) : Type 0 where
-  is : IsBodyOrNone ws b
-  small : AreSmall (flat_map types_of_body (option_to_list b))
-  few : AllByRecursion (λ (c : WrittenBody). length (instrs_of c.lines) ≤ 16384) (option_to_list b)
-  begins : (at : ℕ) → Contains (flat_map (λ (c : WrittenBody). option_to_list c.entry) (option_to_list b)) at → may_begin ≡ true
+pub record BodyOrNone (may_begin : Bool) (ws : List Lexeme) (b : Option WrittenBody) : Type 0 where
+  pub is : IsBodyOrNone ws b
+  pub small : AreSmall (flat_map types_of_body (option_to_list b))
+  pub few : AllByRecursion (λ (c : WrittenBody). length (instrs_of c.lines) ≤ 16384) (option_to_list b)
+  pub begins : (at : ℕ) → Contains (flat_map (λ (c : WrittenBody). option_to_list c.entry) (option_to_list b)) at → may_begin ≡ true
 
 no_item : {A C : Type 0} (x : A) → Contains [] x → C
 no_item x (k, inside, is) = absurd (omega (arith, inside))
