@@ -11,3 +11,4 @@ mod BodiesSound
 mod MethodsSound
 mod ClassesSound
 mod ProgramsSound
+mod TypesComplete

@@ -92,3 +92,7 @@ pub stepped_over : {B C : Type 0} (m : List ℕ) (ws : List Lexeme) (next : Unit
     ((l : Lexeme) (mid : List Lexeme) → ws ≡ l ∷ mid → Is m l → next tt mid ≡ Ok (y, back) → C) → C
 stepped_over m ws next y back e go =
     stepped (expect m ws) next y back e (λ u mid e1 e2. let x = expected m ws u mid e1 in go x.token mid x.split x.same e2)
+
+-- one step of reading, and what is read behind it
+pub by_step : {A B : Type 0} (r : Read A) (next : A → Reader B) (y : Read B) (x : A) (mid : List Lexeme) → r ≡ Ok (x, mid) → next x mid ≡ y → and_then r next ≡ y
+by_step r next y x mid first second = ap (λ s. and_then s next) first ∙ second

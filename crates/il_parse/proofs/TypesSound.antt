@@ -84,7 +84,7 @@ pub positions-object : written_positions w.Object ≡ 1
 unfolding views.roll-WrittenType denote.Hole.Carrier.roll
 positions-object = fold-roll-WrittenType ℕ level_positions WrittenType-F.Object
 
-keyword_positions : AllByRecursion (λ (row : List ℕ × WrittenType). written_positions row.1 ≡ 1) type_words
+pub keyword_positions : AllByRecursion (λ (row : List ℕ × WrittenType). written_positions row.1 ≡ 1) type_words
 unfolding views.roll-WrittenType denote.Hole.Carrier.roll
 keyword_positions = (fold-roll-WrittenType ℕ level_positions WrittenType-F.Int32, (fold-roll-WrittenType ℕ level_positions WrittenType-F.Int64,
     (fold-roll-WrittenType ℕ level_positions WrittenType-F.Bool, (fold-roll-WrittenType ℕ level_positions WrittenType-F.Object,
