@@ -12,3 +12,4 @@ mod MethodsSound
 mod ClassesSound
 mod ProgramsSound
 mod TypesComplete
+mod ListsComplete
