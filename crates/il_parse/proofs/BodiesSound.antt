@@ -16,14 +16,13 @@ use Rattle.il_model.specs.Bodies.{IsEntry, no_entry, entry, AreLocals, no_locals
 use Rattle.il_parse.specs.declared.fault.ParseCause.TheVariants as cause
 use Rattle.il_parse.specs.Reading.{Read, Reader, fault_at, sees, expect, read_name, read_name_but, read_many, read_separated}
 use Rattle.il_parse.specs.Types.{read_type, read_param, read_enclosed}
-use Rattle.il_parse.specs.Operands.{read_call}
 use Rattle.il_parse.specs.Bodies.{read_entry, read_locals, read_lines, most_instrs, read_clause, read_body}
 use Rattle.il_parse.proofs.Finding.{none_is}
-use Rattle.il_parse.proofs.Steps.{Took, Sound, refusal, value_of, rest_of, stepped, stepped_over, seen, Seen, there, absent, joined, led}
+use Rattle.il_parse.proofs.Steps.{AreSpelled, spelled_rest, Took, Sound, refusal, value_of, rest_of, stepped, stepped_over, seen, Seen, there, absent, joined, led}
 use Rattle.il_parse.proofs.TypesSound.{FreeOf, no_quoted}
 use Rattle.il_parse.proofs.ListsSound.{type_sound, NameRead, name_sound, IsBoth, AreSmall, small-append, many_sound, many_small}
 use Rattle.il_parse.proofs.PartsSound.{free_more, param_list_sound, enclosed_sound, enclosed_joined, Enclosed}
-use Rattle.il_parse.proofs.InstrsSound.{IsCalled, types_of_instr, LinesRead, lines_sound}
+use Rattle.il_parse.proofs.InstrsSound.{CallsAreSound, types_of_instr, LinesRead, lines_sound}
 
 -- the entry point that is read, if one is
 data EntryRead (may_begin : Bool) (ws : List Lexeme) (back : List Lexeme) : Option ℕ → Type 0 where
@@ -162,9 +161,10 @@ free_before may_begin ws mid back o ps (plain split none_here) (without stays mi
             (free_more (codes ".entrypoint") (codes ".locals" ∷ []) mid (sym (ap (sees (codes ".entrypoint")) split) ∙ none_here)
                 (free_more (codes ".locals") [] mid miss (no_quoted mid))))
 
-pub body_sound : Sound read_call IsCalled → (may_begin : Bool) → Sound (read_body may_begin) (BodyRead may_begin)
+pub body_sound : CallsAreSound → (may_begin : Bool) → (ws : List Lexeme) (b : WrittenBody) (back : List Lexeme) → AreSpelled ws → read_body may_begin ws ≡ Ok (b, back) →
+    Took (BodyRead may_begin) ws b back
 unfolding read_body read_lines
-body_sound call_sound may_begin ws b back e =
+body_sound call_sound may_begin ws b back spelled e =
     stepped (read_entry may_begin ws) _ b back e (λ o ws1 e0 f0.
     stepped (read_locals ws1) _ b back f0 (λ ps ws2 e1 f1.
     stepped (read_lines ws2) _ b back f1 (λ lines ws3 e2 f2.
@@ -173,7 +173,8 @@ body_sound call_sound may_begin ws b back e =
     let y = locals_read ws1 ps ws2 e1 in
     let p = entry_part may_begin ws ws1 o x in
     let q = locals_part ws1 ws2 ps y in
-    let m = lines_sound call_sound (length ws2) (quoted_before o ps) most_instrs [] ws2 lines ws3 (free_before may_begin ws ws1 ws2 o ps x y) e2 in
+    let spelled2 = spelled_rest ws1 q.front ws2 q.split (spelled_rest ws p.front ws1 p.split spelled) in
+    let m = lines_sound call_sound (length ws2) (quoted_before o ps) most_instrs [] ws2 lines ws3 spelled2 (free_before may_begin ws ws1 ws2 o ps x y) e2 in
     let c = many_sound read_clause (IsBoth IsClause type_of_clause) clause_sound (codes ".try") ws3 cs ws4 e3 in
     let d = many_small IsClause type_of_clause c.front cs c.holds in
     let made : WrittenBody = record { entry = o; locals = ps; lines = lines; clauses = cs } in

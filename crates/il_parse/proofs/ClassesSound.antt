@@ -23,14 +23,13 @@ use Rattle.il_model.specs.Types.{IsType, AreTypes, last_type, next_type}
 use Rattle.il_parse.specs.declared.fault.ParseCause.TheVariants as cause
 use Rattle.il_parse.specs.Reading.{Read, Reader, fault_at, stuck_fault, sees, expect, expect_at, read_name_but}
 use Rattle.il_parse.specs.Types.{read_type, read_types, read_vars}
-use Rattle.il_parse.specs.Operands.{read_call}
 use Rattle.il_parse.specs.Classes.{read_field, read_method, is_empty, Members, members_from, read_members, kind_or_plain, read_kind, has_base, read_base, read_interfaces, most_class_vars, read_class, classes_from}
 use Rattle.il_parse.proofs.Finding.{found_in, made}
-use Rattle.il_parse.proofs.Steps.{Took, Sound, refusal, value_of, rest_of, stepped, stepped_over, seen, Seen, there, absent, joined, led}
+use Rattle.il_parse.proofs.Steps.{AreSpelled, spelled_rest, Took, Sound, refusal, value_of, rest_of, stepped, stepped_over, seen, Seen, there, absent, joined, led}
 use Rattle.il_parse.proofs.TypesSound.{no_quoted}
 use Rattle.il_parse.proofs.ListsSound.{type_sound, NameRead, name_sound, IsBoth, AreSmall, small-append, types_sound}
 use Rattle.il_parse.proofs.PartsSound.{IsVars, vars_sound}
-use Rattle.il_parse.proofs.InstrsSound.{IsCalled}
+use Rattle.il_parse.proofs.InstrsSound.{CallsAreSound}
 use Rattle.il_parse.proofs.MethodsSound.{type_of_field, field_sound, MethodFine, MethodRead, method_sound, place_read}
 
 -- members that were read behind those found, with the number of methods that may still come
@@ -57,17 +56,17 @@ no_members plain_class left found ws ys back e = record {
   count = omega (arith, ap (λ p. p.1) (value_of (found, left) ys ws back e));
 }
 
-module _ (call_sound : Sound read_call IsCalled) where
+module _ (call_sound : CallsAreSound) where
   members_sound : (plain_class : Bool) (n left : ℕ) (found : List WrittenMember) (ws : List Lexeme) (ys : Members) (back : List Lexeme) →
-      members_from plain_class n left found ws ≡ Ok (ys, back) → MembersRead plain_class left found ws ys back
+      AreSpelled ws → members_from plain_class n left found ws ≡ Ok (ys, back) → MembersRead plain_class left found ws ys back
   unfolding members_from
-  members_sound plain_class zero left found ws ys back e = no_members plain_class left found ws ys back e
-  members_sound plain_class (suc n) left found ws ys back e =
+  members_sound plain_class zero left found ws ys back spelled e = no_members plain_class left found ws ys back e
+  members_sound plain_class (suc n) left found ws ys back spelled e =
       elim (cases_Bool (sees (codes ".field") ws)) [
         | inl hit ↦
           stepped (read_field ws) _ ys back (rw hit at e) (λ f mid e0 f0.
           let t = field_sound ws f mid e0 in
-          let m = members_sound plain_class n left (found ++ member.Field f ∷ []) mid ys back f0 in
+          let m = members_sound plain_class n left (found ++ member.Field f ∷ []) mid ys back (spelled_rest ws t.front mid t.split spelled) f0 in
           record {
             front = t.front ++ m.front;
             items = member.Field f ∷ m.items;
@@ -83,8 +82,8 @@ module _ (call_sound : Sound read_call IsCalled) where
             | inl full ↦ refusal (fault_at ws cause.TooMany) ys back (rw (no_field, hit, full) at e)
             | inr room ↦
               stepped (read_method plain_class ws) _ ys back (rw (no_field, hit, room) at e) (λ d mid e0 f0.
-              let t = method_sound call_sound plain_class ws d mid e0 in
-              let m = members_sound plain_class n (left - 1) (found ++ member.Method d ∷ []) mid ys back f0 in
+              let t = method_sound call_sound plain_class ws d mid spelled e0 in
+              let m = members_sound plain_class n (left - 1) (found ++ member.Method d ∷ []) mid ys back (spelled_rest ws t.front mid t.split spelled) f0 in
               record {
                 front = t.front ++ m.front;
                 items = member.Method d ∷ m.items;
@@ -190,9 +189,10 @@ small_methods : (plain_class : Bool) (ms : List WrittenMethod) → AllByRecursio
 small_methods plain_class [] all = tt
 small_methods plain_class (m ∷ ms) all = small-append (types_of_method m) (flat_map types_of_method ms) all.0.small (small_methods plain_class ms all.1)
 
-pub class_sound : Sound read_call IsCalled → (left : ℕ) → Sound (read_class left) (ClassRead left)
+pub class_sound : CallsAreSound → (left : ℕ) → (ws : List Lexeme) (p : WrittenClass × ℕ) (back : List Lexeme) → AreSpelled ws → read_class left ws ≡ Ok (p, back) →
+    Took (ClassRead left) ws p back
 unfolding read_class read_members
-class_sound call_sound left ws p back e =
+class_sound call_sound left ws p back spelled e =
     stepped (expect_at (codes ".class") ws) _ p back e (λ at ws1 e0 f0.
     stepped (read_kind ws1) _ p back f0 (λ k ws2 e1 f1.
     stepped (read_name_but quoted_words ws2) _ p back f1 (λ name ws3 e2 f2.
@@ -208,7 +208,12 @@ class_sound call_sound left ws p back e =
     let v = vars_sound 3 ws3 vars ws4 e3 in
     let x = base_sound k ws4 base ws5 e4 in
     let i = interfaces_sound ws5 interfaces ws6 e5 in
-    let m = members_sound call_sound (is_empty vars) (length ws7) left [] ws7 members ws8 e7 in
+    let t1 = led ws a.token ws1 b.front ws2 a.split b.split in
+    let t2 = joined ws (a.token ∷ b.front) ws2 (n.token ∷ v.front) ws4 t1 (led ws2 n.token ws3 v.front ws4 n.split v.split) in
+    let t3 = joined ws (a.token ∷ b.front ++ n.token ∷ v.front) ws4 x.front ws5 t2 x.split in
+    let t4 = joined ws (a.token ∷ b.front ++ n.token ∷ v.front ++ x.front) ws5 i.front ws6 t3 i.split in
+    let spelled7 = spelled_rest ws6 (opening ∷ []) ws7 s6 (spelled_rest ws (a.token ∷ b.front ++ n.token ∷ v.front ++ x.front ++ i.front) ws6 t4 spelled) in
+    let m = members_sound call_sound (is_empty vars) (length ws7) left [] ws7 members ws8 spelled7 e7 in
     let made : WrittenClass × ℕ =
         (record { at = at; kind = k; name = name; vars = vars; base = base; interfaces = interfaces; members = members.0 }, members.1) in
     let named : WrittenClass × ℕ =
@@ -218,10 +223,6 @@ class_sound call_sound left ws p back e =
         ap (λ (y : ℕ). (record { at = y; kind = k; name = name_at n.token; vars = vars; base = base; interfaces = interfaces; members = m.items }, members.1)) (sym a.place)
         ∙ ap (λ (y : WrittenName). (record { at = at; kind = k; name = y; vars = vars; base = base; interfaces = interfaces; members = m.items }, members.1)) (sym n.at)
         ∙ ap (λ (y : List WrittenMember). (record { at = at; kind = k; name = name; vars = vars; base = base; interfaces = interfaces; members = y }, members.1)) (sym m.all) in
-    let t1 = led ws a.token ws1 b.front ws2 a.split b.split in
-    let t2 = joined ws (a.token ∷ b.front) ws2 (n.token ∷ v.front) ws4 t1 (led ws2 n.token ws3 v.front ws4 n.split v.split) in
-    let t3 = joined ws (a.token ∷ b.front ++ n.token ∷ v.front) ws4 x.front ws5 t2 x.split in
-    let t4 = joined ws (a.token ∷ b.front ++ n.token ∷ v.front ++ x.front) ws5 i.front ws6 t3 i.split in
     let t5 = joined ws (a.token ∷ b.front ++ n.token ∷ v.front ++ x.front ++ i.front) ws6 (opening ∷ m.front) ws8 t4 (led ws6 opening ws7 m.front ws8 s6 m.split) in
     let t6 = joined ws (a.token ∷ b.front ++ n.token ∷ v.front ++ x.front ++ i.front ++ opening ∷ m.front) ws8 (closing ∷ []) ws9 t5 s8 in
     record {

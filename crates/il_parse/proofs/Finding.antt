@@ -1,5 +1,5 @@
 -- What is found in a list is in it.
-use Rattle.std.proofs.Common.{◌≡◌, ℕ, zero, suc, ◌+◌, ◌<◌, Bool, true, false, cond, List, [], ◌∷◌, length, Option, Some, None, refl, sym, ap, subst, ◌∙◌, bytes_eq, arith, find, Contains, option_map, is_some, slice_index_or, inl, inr}
+use Rattle.std.proofs.Common.{◌≡◌, ℕ, zero, suc, ◌+◌, ◌<◌, Bool, true, false, cond, List, [], ◌∷◌, length, Option, Some, None, refl, sym, ap, subst, ◌∙◌, bytes_eq, arith, find, Contains, All, ◌++◌, option_map, is_some, slice_index_or, inl, inr}
 use Rattle.std.specs.Option.{unwrap_or}
 use Rattle.std.specs.List.{AllByRecursion, list_any, list_all}
 use Rattle.std.proofs.lemmas.Bool.{true≢false, cases_Bool, and_parts}
@@ -63,3 +63,19 @@ found_passes p test (y ∷ xs) x all e =
     elim (cases_Bool (test y)) [
       | inl hit ↦ subst (λ z. p z ≡ true) (some_is y x (ap (λ b. cond b (Some y) (find test xs)) (sym hit) ∙ e)) parts.0
       | inr miss ↦ found_passes p test xs x parts.1 (ap (λ b. cond b (Some y) (find test xs)) (sym miss) ∙ e) ]
+
+pub all_of : {X : Type 0} (P : X → Type 0) (xs : List X) → AllByRecursion P xs → All P xs
+all_of P [] all k d inside = absurd (omega (arith, inside))
+all_of P (x ∷ xs) all zero d inside = all.0
+all_of P (x ∷ xs) all (suc k) d inside = all_of P xs all.1 k d (omega (arith, inside))
+
+pub all_contains : {X : Type 0} (P : X → Type 0) (xs : List X) (x : X) → AllByRecursion P xs → Contains xs x → P x
+all_contains P xs x all (k, inside, is) = subst P is (all_of P xs all k x inside)
+
+pub all_map : {X : Type 0} (P Q : X → Type 0) → ((x : X) → P x → Q x) → (xs : List X) → AllByRecursion P xs → AllByRecursion Q xs
+all_map P Q f [] all = tt
+all_map P Q f (x ∷ xs) all = (f x all.0, all_map P Q f xs all.1)
+
+pub all-append : {X : Type 0} (P : X → Type 0) (xs ys : List X) → AllByRecursion P xs → AllByRecursion P ys → AllByRecursion P (xs ++ ys)
+all-append P [] ys a b = b
+all-append P (x ∷ xs) ys a b = (a.0, all-append P xs ys a.1 b)

@@ -21,7 +21,7 @@ use Rattle.il_parse.specs.Reading.{Read, Reader, stuck_fault, fault_at, sees, un
 use Rattle.il_parse.specs.Mnemonics.{Mnemonic, calls, takes, holds, mnemonic_of}
 use Rattle.il_parse.specs.Operands.{read_operand, read_call, read_meaning, read_instr}
 use Rattle.il_parse.specs.Bodies.{LineStart, no_line, labels, instructs, left_out, unknown, start_of_word, line_start, read_line, lines_from}
-use Rattle.il_parse.proofs.Steps.{Took, Sound, refusal, value_of, rest_of, stepped, seen, Seen, there, absent, joined, led}
+use Rattle.il_parse.proofs.Steps.{AreSpelled, spelled_rest, Took, refusal, value_of, rest_of, stepped, seen, Seen, there, absent, joined, led}
 use Rattle.il_parse.proofs.TypesSound.{FreeOf, no_quoted}
 use Rattle.il_parse.proofs.ListsSound.{IsBoth, AreSmall, small-append}
 use Rattle.il_parse.proofs.WordsSound.{Meant, meant_call, meant_long, meant_short, meant_whole, mnemonic_sound}
@@ -97,13 +97,18 @@ nothing_read quoted left found ws ys back e = record {
   few = omega arith;
 }
 
-module _ (call_sound : Sound read_call IsCalled) where
-  meaning_sound : (l : Lexeme) (says : Mnemonic) → Meant l.bytes says → Sound (read_meaning says) (IsBehind l)
+-- what follows `call` in a text is read as a call
+abbrev pub CallsAreSound : Type 0
+CallsAreSound = (ws : List Lexeme) (found : Form × WrittenOperand) (back : List Lexeme) → AreSpelled ws → read_call ws ≡ Ok (found, back) → Took IsCalled ws found back
+
+module _ (call_sound : CallsAreSound) where
+  meaning_sound : (l : Lexeme) (says : Mnemonic) → Meant l.bytes says → (ws : List Lexeme) (found : Form × WrittenOperand) (back : List Lexeme) → AreSpelled ws →
+      read_meaning says ws ≡ Ok (found, back) → Took (IsBehind l) ws found back
   unfolding read_meaning
-  meaning_sound l calls (meant_call same) ws found back e =
-      let c = call_sound ws found back e in
+  meaning_sound l calls (meant_call same) ws found back spelled e =
+      let c = call_sound ws found back spelled e in
       record { front = c.front; split = c.split; holds = record { is = c.holds.is l (sym same); small = c.holds.small } }
-  meaning_sound l (takes g) (meant_long f is free) ws found back e =
+  meaning_sound l (takes g) (meant_long f is free) ws found back spelled e =
       stepped (read_operand (operand_kind f) ws) _ found back e (λ o mid e0 f0.
       let t = operand_sound (operand_kind f) free ws o mid e0 in
       record {
@@ -111,7 +116,7 @@ module _ (call_sound : Sound read_call IsCalled) where
         split = t.split ∙ ap (λ z. t.front ++ z) (rest_of (f, o) found mid back f0);
         holds = subst (IsBehind l t.front) (value_of (f, o) found mid back f0) (record { is = long l t.front f o is t.holds.is; small = t.holds.small });
       })
-  meaning_sound l (takes g) (meant_short f is free) ws found back e =
+  meaning_sound l (takes g) (meant_short f is free) ws found back spelled e =
       stepped (read_operand (operand_kind f) ws) _ found back e (λ o mid e0 f0.
       let t = operand_sound (operand_kind f) free ws o mid e0 in
       record {
@@ -119,7 +124,7 @@ module _ (call_sound : Sound read_call IsCalled) where
         split = t.split ∙ ap (λ z. t.front ++ z) (rest_of (f, o) found mid back f0);
         holds = subst (IsBehind l t.front) (value_of (f, o) found mid back f0) (record { is = short l t.front f o is t.holds.is; small = t.holds.small });
       })
-  meaning_sound l (holds g p) (meant_whole row is same small) ws found back e =
+  meaning_sound l (holds g p) (meant_whole row is same small) ws found back spelled e =
       record {
         front = [];
         split = rest_of (row.form, row.operand) found ws back e;
@@ -127,12 +132,12 @@ module _ (call_sound : Sound read_call IsCalled) where
       }
 
   -- an instruction with its word
-  pub instr_sound : (l : Lexeme) (says : Mnemonic) → mnemonic_of l.bytes ≡ Some says → (ws : List Lexeme) (i : WrittenInstr) (back : List Lexeme) →
+  pub instr_sound : (l : Lexeme) (says : Mnemonic) → mnemonic_of l.bytes ≡ Some says → (ws : List Lexeme) (i : WrittenInstr) (back : List Lexeme) → AreSpelled ws →
       read_instr l.at says ws ≡ Ok (i, back) → Took (λ front j. IsBoth IsInstr types_of_instr (l ∷ front) j) ws i back
   unfolding read_instr
-  instr_sound l says is ws i back e =
+  instr_sound l says is ws i back spelled e =
       stepped (read_meaning says ws) _ i back e (λ found mid e0 f0.
-      let t = meaning_sound l says (mnemonic_sound l.bytes says is) ws found mid e0 in
+      let t = meaning_sound l says (mnemonic_sound l.bytes says is) ws found mid spelled e0 in
       let made : WrittenInstr = record { at = l.at; form = found.0; operand = found.1 } in
       record {
         front = t.front;
@@ -142,16 +147,16 @@ module _ (call_sound : Sound read_call IsCalled) where
 
   -- one line and those behind it
   line_sound : (n : ℕ) → ((left : ℕ) (found : List WrittenLine) (ws : List Lexeme) (ys : List WrittenLine) (back : List Lexeme) →
-      lines_from n left found ws ≡ Ok (ys, back) → LinesRead [] left found ws ys back) →
+      AreSpelled ws → lines_from n left found ws ≡ Ok (ys, back) → LinesRead [] left found ws ys back) →
       (quoted : List (List ℕ)) (left : ℕ) (found : List WrittenLine) (l : Lexeme) (ws : List Lexeme) (ys : List WrittenLine) (back : List Lexeme) →
-      is_among quoted l.bytes ≡ false → (s : LineStart) → Started l ws s → read_line (λ rest lines. lines_from n rest lines) left found s l ws ≡ Ok (ys, back) →
+      AreSpelled ws → is_among quoted l.bytes ≡ false → (s : LineStart) → Started l ws s → read_line (λ rest lines. lines_from n rest lines) left found s l ws ≡ Ok (ys, back) →
       LinesRead quoted left found (l ∷ ws) ys back
-  line_sound n others quoted left found l ws ys back free no_line started_none e = nothing_read quoted left found (l ∷ ws) ys back e
-  line_sound n others quoted left found l ws ys back free labels (started_label word no_try hit) e =
+  line_sound n others quoted left found l ws ys back spelled free no_line started_none e = nothing_read quoted left found (l ∷ ws) ys back e
+  line_sound n others quoted left found l ws ys back spelled free labels (started_label word no_try hit) e =
       elim (seen (codes ":") ws) [
         | there colon rest split same hit2 behind ↦
-          let m = others left (found ++ line.Label (name_at l) ∷ []) (drop 1 ws) ys back e in
           let behind_colon : drop 1 ws ≡ rest = ap (drop 1) split in
+          let m = others left (found ++ line.Label (name_at l) ∷ []) (drop 1 ws) ys back (subst AreSpelled (sym behind_colon) (spelled_rest ws (colon ∷ []) rest split spelled)) e in
           record {
             front = l ∷ colon ∷ m.front;
             items = line.Label (name_at l) ∷ m.items;
@@ -163,13 +168,13 @@ module _ (call_sound : Sound read_call IsCalled) where
             few = m.few;
           }
         | absent miss stays ↦ absurd (true≢false (sym hit ∙ miss)) ]
-  line_sound n others quoted left found l ws ys back free (instructs says) (started_instr same is) e =
+  line_sound n others quoted left found l ws ys back spelled free (instructs says) (started_instr same is) e =
       elim (cases_Bool (left == 0)) [
         | inl full ↦ refusal (fault_at (l ∷ ws) cause.TooMany) ys back (rw full at e)
         | inr room ↦
           stepped (read_instr l.at says ws) _ ys back (rw room at e) (λ i mid e0 f0.
-          let t = instr_sound l says is ws i mid e0 in
-          let m = others (left - 1) (found ++ line.Instr i ∷ []) mid ys back f0 in
+          let t = instr_sound l says is ws i mid spelled e0 in
+          let m = others (left - 1) (found ++ line.Instr i ∷ []) mid ys back (spelled_rest ws t.front mid t.split spelled) f0 in
           record {
             front = l ∷ t.front ++ m.front;
             items = line.Instr i ∷ m.items;
@@ -179,14 +184,14 @@ module _ (call_sound : Sound read_call IsCalled) where
             small = small-append (types_of_instr i) (flat_map types_of_instr (instrs_of m.items)) t.holds.small m.small;
             few = omega (arith, m.few, eqb-false left 0 room);
           }) ]
-  line_sound n others quoted left found l ws ys back free left_out started_out e = refusal (stuck_fault (l ∷ ws)) ys back e
-  line_sound n others quoted left found l ws ys back free unknown started_unknown e = refusal (stuck_fault ws) ys back e
+  line_sound n others quoted left found l ws ys back spelled free left_out started_out e = refusal (stuck_fault (l ∷ ws)) ys back e
+  line_sound n others quoted left found l ws ys back spelled free unknown started_unknown e = refusal (stuck_fault ws) ys back e
 
   pub lines_sound : (n : ℕ) (quoted : List (List ℕ)) (left : ℕ) (found : List WrittenLine) (ws : List Lexeme) (ys : List WrittenLine) (back : List Lexeme) →
-      FreeOf quoted ws → lines_from n left found ws ≡ Ok (ys, back) → LinesRead quoted left found ws ys back
+      AreSpelled ws → FreeOf quoted ws → lines_from n left found ws ≡ Ok (ys, back) → LinesRead quoted left found ws ys back
   unfolding lines_from
-  lines_sound n quoted left found [] ys back free e = nothing_read quoted left found [] ys back e
-  lines_sound zero quoted left found (l ∷ ws) ys back free e = nothing_read quoted left found (l ∷ ws) ys back e
-  lines_sound (suc n) quoted left found (l ∷ ws) ys back free e =
-      line_sound n (λ room before inside lines rest f. lines_sound n [] room before inside lines rest (no_quoted inside) f)
-          quoted left found l ws ys back free (line_start l ws) (started l ws) e
+  lines_sound n quoted left found [] ys back spelled free e = nothing_read quoted left found [] ys back e
+  lines_sound zero quoted left found (l ∷ ws) ys back spelled free e = nothing_read quoted left found (l ∷ ws) ys back e
+  lines_sound (suc n) quoted left found (l ∷ ws) ys back spelled free e =
+      line_sound n (λ room before inside lines rest p f. lines_sound n [] room before inside lines rest p (no_quoted inside) f)
+          quoted left found l ws ys back spelled.1 free (line_start l ws) (started l ws) e

@@ -13,3 +13,4 @@ mod ClassesSound
 mod ProgramsSound
 mod TypesComplete
 mod ListsComplete
+mod PartsComplete

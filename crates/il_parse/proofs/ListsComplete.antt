@@ -14,10 +14,10 @@ use Rattle.il_model.specs.Bounds.{written_positions}
 use Rattle.il_model.specs.Types.{IsType, keyword, variable, named, applied, vector, AreTypes, last_type, next_type}
 use Rattle.il_parse.specs.Reading.{Read, Reader, and_then, sees, after, read_name_but, is_word_kind, stuck_fault, separated_from, read_separated}
 use Rattle.il_parse.specs.Types.{read_type, read_type_within, most_positions, read_types}
-use Rattle.il_parse.proofs.Steps.{by_step}
+use Rattle.il_parse.proofs.Steps.{AreSpelled, spelled-append, by_step}
 use Rattle.il_parse.proofs.ListsSound.{AreSmall}
-use Rattle.il_parse.proofs.ProgramsSound.{all_contains}
-use Rattle.il_parse.proofs.TypesComplete.{AreSpelled, spelled-append, sees-is, sees-other, after-is, after-other, no_mark, vectors-end, type_goes, positive}
+use Rattle.il_parse.proofs.Finding.{all_contains}
+use Rattle.il_parse.proofs.TypesComplete.{sees-is, sees-other, after-is, after-other, no_mark, vectors-end, type_goes, positive}
 
 -- what may stand behind a type
 pub record Ends (back : List Lexeme) : Type 0 where

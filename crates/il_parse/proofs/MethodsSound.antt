@@ -27,16 +27,15 @@ use Rattle.il_parse.specs.declared.fault.ParseCause.TheVariants as cause
 use Rattle.il_parse.specs.Reading.{Read, Reader, fault_at, stuck_fault, sees, expect, expect_at, read_name, read_name_but}
 use Rattle.il_parse.specs.Types.{read_type, read_result, read_params, read_enclosed}
 use Rattle.il_parse.specs.Members.{read_method_name}
-use Rattle.il_parse.specs.Operands.{read_call}
 use Rattle.il_parse.specs.Bodies.{read_body}
 use Rattle.il_parse.specs.Classes.{read_field, read_shape, most_method_vars, read_no_vars, read_method_vars, read_body_or_none, is_fixed, is_empty, may_begin_in, read_method, Members, members_from, read_members}
 use Rattle.il_parse.proofs.Finding.{none_is, some_is}
-use Rattle.il_parse.proofs.Steps.{Took, Sound, refusal, value_of, rest_of, stepped, stepped_over, seen, Seen, there, absent, joined, led}
+use Rattle.il_parse.proofs.Steps.{AreSpelled, spelled_rest, Took, Sound, refusal, value_of, rest_of, stepped, stepped_over, seen, Seen, there, absent, joined, led}
 use Rattle.il_parse.proofs.TypesSound.{FreeOf, no_quoted}
 use Rattle.il_parse.proofs.ListsSound.{type_sound, NameRead, name_sound, IsBoth, AreSmall, small-append}
 use Rattle.il_parse.proofs.PartsSound.{optional, free_more, result_sound, IsVars, vars_sound, params_sound, enclosed_sound, enclosed_joined, Enclosed}
 use Rattle.il_parse.proofs.MembersSound.{method_name_sound}
-use Rattle.il_parse.proofs.InstrsSound.{IsCalled}
+use Rattle.il_parse.proofs.InstrsSound.{CallsAreSound}
 use Rattle.il_parse.proofs.BodiesSound.{BodyRead, body_sound}
 
 abbrev pub type_of_field : WrittenField → List WrittenType
@@ -160,9 +159,10 @@ entry_begins : (may_begin : Bool) (o : Option ℕ) → ((at : ℕ) → o ≡ Som
 entry_begins may_begin None begins at c = no_item at c
 entry_begins may_begin (Some found) begins at c = begins found refl
 
-body_or_none_sound : Sound read_call IsCalled → (may_begin : Bool) → Sound (read_body_or_none may_begin) (BodyOrNone may_begin)
+body_or_none_sound : CallsAreSound → (may_begin : Bool) → (ws : List Lexeme) (o : Option WrittenBody) (back : List Lexeme) → AreSpelled ws →
+    read_body_or_none may_begin ws ≡ Ok (o, back) → Took (BodyOrNone may_begin) ws o back
 unfolding read_body_or_none
-body_or_none_sound call_sound may_begin ws o back e =
+body_or_none_sound call_sound may_begin ws o back spelled e =
     elim (seen (codes ";") ws) [
       | there l rest split same hit behind ↦
         let e2 : (let r : Read (Option WrittenBody) = Ok (None, rest) in r ≡ Ok (o, back)) = rw (hit, behind) at e in
@@ -176,7 +176,7 @@ body_or_none_sound call_sound may_begin ws o back e =
         stepped_over (codes "{") ws _ o back (rw (miss, stays) at e) (λ left ws1 s0 h0 f0.
         stepped (read_body may_begin ws1) _ o back f0 (λ b ws2 e1 f1.
         stepped_over (codes "}") ws2 _ o back f1 (λ right ws3 s2 h2 f2.
-        let t = body_sound call_sound may_begin ws1 b ws2 e1 in
+        let t = body_sound call_sound may_begin ws1 b ws2 (spelled_rest ws (left ∷ []) ws1 s0 spelled) e1 in
         let whole : List Lexeme = left ∷ t.front ++ right ∷ [] in
         record {
           front = whole;
@@ -246,9 +246,10 @@ place_read m (l ∷ ws) at mid e =
         }
       | inr miss ↦ refusal (stuck_fault (l ∷ ws)) at mid (rw miss at e) ]
 
-pub method_sound : Sound read_call IsCalled → (plain_class : Bool) → Sound (read_method plain_class) (MethodRead plain_class)
+pub method_sound : CallsAreSound → (plain_class : Bool) → (ws : List Lexeme) (m : WrittenMethod) (back : List Lexeme) → AreSpelled ws →
+    read_method plain_class ws ≡ Ok (m, back) → Took (MethodRead plain_class) ws m back
 unfolding read_method
-method_sound call_sound plain_class ws m back e =
+method_sound call_sound plain_class ws m back spelled e =
     stepped (expect_at (codes ".method") ws) _ m back e (λ at ws1 e0 f0.
     stepped (read_shape ws1) _ m back f0 (λ s ws2 e1 f1.
     stepped (read_result ws2) _ m back f1 (λ result ws3 e2 f2.
@@ -262,17 +263,18 @@ method_sound call_sound plain_class ws m back e =
     let n = method_name_sound ws3 name ws4 e3 in
     let v = method_vars_sound s ws4 vars ws5 e4 in
     let q = enclosed_sound read_params (IsBoth AreParams types_of_params) params_sound ws5 params ws6 e5 in
-    let t = body_or_none_sound call_sound (may_begin_in plain_class s result vars params) ws6 b ws7 e6 in
+    let t1 = led ws p.token ws1 h.front ws2 p.split h.split in
+    let t2 = joined ws (p.token ∷ h.front) ws2 r.front ws3 t1 r.split in
+    let t3 = joined ws (p.token ∷ h.front ++ r.front) ws3 (n.token ∷ v.front) ws5 t2 (led ws3 n.token ws4 v.front ws5 n.split v.split) in
+    let t4 = enclosed_joined ws (p.token ∷ h.front ++ r.front ++ n.token ∷ v.front) ws5 params ws6 t3 q in
+    let t = body_or_none_sound call_sound (may_begin_in plain_class s result vars params) ws6 b ws7
+        (spelled_rest ws (p.token ∷ h.front ++ r.front ++ n.token ∷ v.front ++ q.left ∷ q.inner ++ q.right ∷ []) ws6 t4 spelled) e6 in
     let made : WrittenMethod = record { at = at; shape = s; result = result; name = name; vars = vars; params = params; body = b } in
     let named : WrittenMethod = record { at = p.token.at; shape = s; result = result; name = name_at n.token; vars = vars; params = params; body = b } in
     let whole : List Lexeme = p.token ∷ h.front ++ r.front ++ n.token ∷ v.front ++ q.left ∷ q.inner ++ q.right ∷ t.front in
     let same_name : named ≡ made =
         ap (λ (x : ℕ). record { at = x; shape = s; result = result; name = name_at n.token; vars = vars; params = params; body = b }) (sym p.place)
         ∙ ap (λ (x : WrittenName). record { at = at; shape = s; result = result; name = x; vars = vars; params = params; body = b }) (sym n.at) in
-    let t1 = led ws p.token ws1 h.front ws2 p.split h.split in
-    let t2 = joined ws (p.token ∷ h.front) ws2 r.front ws3 t1 r.split in
-    let t3 = joined ws (p.token ∷ h.front ++ r.front) ws3 (n.token ∷ v.front) ws5 t2 (led ws3 n.token ws4 v.front ws5 n.split v.split) in
-    let t4 = enclosed_joined ws (p.token ∷ h.front ++ r.front ++ n.token ∷ v.front) ws5 params ws6 t3 q in
     let before : List Lexeme = p.token ∷ h.front ++ r.front ++ n.token ∷ v.front ++ q.left ∷ q.inner in
     let t5 : ws ≡ before ++ (q.right ∷ ws6) = t4 ∙ append_assoc before (q.right ∷ []) ws6 in
     let t6 = joined ws before (q.right ∷ ws6) (q.right ∷ t.front) ws7 t5 (ap (λ z. q.right ∷ z) t.split) in

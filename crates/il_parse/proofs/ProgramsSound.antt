@@ -15,11 +15,10 @@ use Rattle.il_model.specs.LookUp.{EntriesFit, EntryFits}
 use Rattle.il_parse.specs.declared.fault.Fault.{Fault}
 use Rattle.il_parse.specs.declared.fault.ParseCause.TheVariants as cause
 use Rattle.il_parse.specs.Reading.{Read, Reader, fault_at, stuck_fault}
-use Rattle.il_parse.specs.Operands.{read_call}
 use Rattle.il_parse.specs.Classes.{is_empty, read_class, classes_from, class_room, method_room, outcome, read_program}
-use Rattle.il_parse.proofs.Steps.{Took, Sound, refusal, value_of, rest_of, stepped}
+use Rattle.il_parse.proofs.Steps.{AreSpelled, spelled_rest, Took, refusal, value_of, rest_of, stepped}
 use Rattle.il_parse.proofs.ListsSound.{AreSmall, small-append}
-use Rattle.il_parse.proofs.InstrsSound.{IsCalled}
+use Rattle.il_parse.proofs.InstrsSound.{CallsAreSound}
 use Rattle.il_parse.proofs.MethodsSound.{MethodFine, empty_is}
 use Rattle.il_parse.proofs.ClassesSound.{ClassRead, class_sound}
 
@@ -43,11 +42,11 @@ no_token : {A C : Type 0} (l : Lexeme) (ws : List Lexeme) (b : Bool) (x : A) (ba
 no_token l ws true x back e = refusal (fault_at (l ∷ ws) cause.TooMany) x back e
 no_token l ws false x back e = refusal (stuck_fault (l ∷ ws)) x back e
 
-module _ (call_sound : Sound read_call IsCalled) where
+module _ (call_sound : CallsAreSound) where
   classes_sound : (most left : ℕ) (found : List WrittenClass) (ws : List Lexeme) (ys : List WrittenClass) (back : List Lexeme) →
-      classes_from most left found ws ≡ Ok (ys, back) → ClassesRead most left found ws ys
+      AreSpelled ws → classes_from most left found ws ≡ Ok (ys, back) → ClassesRead most left found ws ys
   unfolding classes_from
-  classes_sound most left found [] ys back e = record {
+  classes_sound most left found [] ys back spelled e = record {
     items = [];
     all = sym (value_of found ys [] back e) ∙ sym (append-nil found);
     are = none;
@@ -55,11 +54,11 @@ module _ (call_sound : Sound read_call IsCalled) where
     few = omega arith;
     count = omega arith;
   }
-  classes_sound zero left found (l ∷ ws) ys back e = no_token l ws (bytes_eq (codes ".class") l.bytes) ys back e
-  classes_sound (suc most) left found (l ∷ ws) ys back e =
+  classes_sound zero left found (l ∷ ws) ys back spelled e = no_token l ws (bytes_eq (codes ".class") l.bytes) ys back e
+  classes_sound (suc most) left found (l ∷ ws) ys back spelled e =
       stepped (read_class left (l ∷ ws)) _ ys back e (λ p mid e0 f0.
-      let t = class_sound call_sound left (l ∷ ws) p mid e0 in
-      let m = classes_sound most p.1 (found ++ p.0 ∷ []) mid ys back f0 in
+      let t = class_sound call_sound left (l ∷ ws) p mid spelled e0 in
+      let m = classes_sound most p.1 (found ++ p.0 ∷ []) mid ys back (spelled_rest (l ∷ ws) t.front mid t.split spelled) f0 in
       record {
         items = p.0 ∷ m.items;
         all = m.all ∙ append_assoc found (p.0 ∷ []) m.items;
@@ -129,8 +128,8 @@ outcome_is : {A : Type 0} (r : Read A) (x : A) → outcome r ≡ Ok x → (back 
 outcome_is (Ok p) x e = (p.1, ap (λ y. Ok (y, p.1)) (ap (λ (o : Result _ Fault). elim o [ Ok y ↦ y | Err f ↦ p.0 ]) e))
 outcome_is (Err f) x e = absurd (true≢false (sym (ap (λ (o : Result _ Fault). elim o [ Ok y ↦ true | Err g ↦ false ]) e)))
 
-pub program_sound : Sound read_call IsCalled → (ws : List Lexeme) (classes : List WrittenClass) → read_program ws ≡ Ok classes → ProgramRead ws classes
+pub program_sound : CallsAreSound → (ws : List Lexeme) (classes : List WrittenClass) → AreSpelled ws → read_program ws ≡ Ok classes → ProgramRead ws classes
 unfolding read_program
-program_sound call_sound ws classes e =
+program_sound call_sound ws classes spelled e =
     let r = outcome_is (classes_from class_room method_room [] ws) classes e in
-    read_whole ws classes (classes_sound call_sound class_room method_room [] ws classes r.0 r.1)
+    read_whole ws classes (classes_sound call_sound class_room method_room [] ws classes r.0 spelled r.1)

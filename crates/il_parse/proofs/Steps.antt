@@ -2,6 +2,8 @@
 use Rattle.std.proofs.Common.{◌≡◌, ℕ, Bool, true, false, if◌then◌else◌, List, [], ◌∷◌, ◌++◌, drop, Ok, Err, refl, sym, ap, subst, ◌∙◌, append_assoc, bytes_eq, codes, MatchResult}
 use Rattle.std.proofs.lemmas.Bool.{true≢false}
 use Rattle.std.proofs.lemmas.Slice.Eq.{bytes_eq-Decides}
+use Rattle.std.specs.List.{AllByRecursion}
+use Rattle.il_text.specs.Spelling.{spells}
 use Rattle.il_model.specs.Lexemes.{Lexeme, Is}
 use Rattle.il_parse.specs.declared.fault.Fault.{Fault}
 use Rattle.il_parse.specs.Reading.{Read, Reader, and_then, sees, after, expect, stuck_fault}
@@ -96,3 +98,15 @@ stepped_over m ws next y back e go =
 -- one step of reading, and what is read behind it
 pub by_step : {A B : Type 0} (r : Read A) (next : A → Reader B) (y : Read B) (x : A) (mid : List Lexeme) → r ≡ Ok (x, mid) → next x mid ≡ y → and_then r next ≡ y
 by_step r next y x mid first second = ap (λ s. and_then s next) first ∙ second
+
+-- each lexeme spells a token of its kind
+abbrev pub AreSpelled : List Lexeme → Type 0
+AreSpelled ws = AllByRecursion (λ (l : Lexeme). spells l.kind l.bytes ≡ true) ws
+
+pub spelled-append : (a b : List Lexeme) → AreSpelled (a ++ b) → AreSpelled a × AreSpelled b
+spelled-append [] b s = (tt, s)
+spelled-append (l ∷ a) b s = let r = spelled-append a b s.1 in ((s.0, r.0), r.1)
+
+-- what remains is spelled where all is
+pub spelled_rest : (ws front mid : List Lexeme) → ws ≡ front ++ mid → AreSpelled ws → AreSpelled mid
+spelled_rest ws front mid split s = (spelled-append front mid (subst AreSpelled split s)).1

@@ -15,18 +15,9 @@ use Rattle.il_model.specs.Bounds.{written_positions}
 use Rattle.il_model.specs.Types.{IsType, keyword, variable, named, applied, vector, AreTypes, last_type, next_type}
 use Rattle.il_parse.specs.Reading.{Read, Reader, and_then, sees, after, expect, stuck_fault}
 use Rattle.il_parse.specs.Types.{keyword_type, Head, whole, class_name, no_type, head_by_kind, head_or_kind, head_of, read_vectors, inner_types_from, read_applied, read_headed, past_head, read_no_head, read_type_within}
-use Rattle.il_parse.proofs.Finding.{found_in, found_passes, made, none_is}
-use Rattle.il_parse.proofs.Steps.{by_step}
+use Rattle.il_parse.proofs.Finding.{found_in, found_passes, made, none_is, all_contains}
+use Rattle.il_parse.proofs.Steps.{AreSpelled, spelled-append, by_step}
 use Rattle.il_parse.proofs.TypesSound.{positions-vector, positions-named, positions-variable, keyword_positions, sum-cons}
-use Rattle.il_parse.proofs.ProgramsSound.{all_contains}
-
--- each lexeme spells a token of its kind
-abbrev pub AreSpelled : List Lexeme → Type 0
-AreSpelled ws = AllByRecursion (λ (l : Lexeme). spells l.kind l.bytes ≡ true) ws
-
-pub spelled-append : (a b : List Lexeme) → AreSpelled (a ++ b) → AreSpelled a × AreSpelled b
-spelled-append [] b s = (tt, s)
-spelled-append (l ∷ a) b s = let r = spelled-append a b s.1 in ((s.0, r.0), r.1)
 
 pub sees-is : (m : List ℕ) (l : Lexeme) (ws : List Lexeme) → Is m l → sees m (l ∷ ws) ≡ true
 unfolding sees
