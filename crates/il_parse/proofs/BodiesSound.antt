@@ -1,28 +1,27 @@
 -- What is read as a body is that of the grammar, within the limits, where calls are.
-use Rattle.std.proofs.Common.{◌≡◌, ℕ, ◌≤◌, Bool, true, false, if◌then◌else◌, List, [], ◌∷◌, ◌++◌, length, map, flat_map, Option, Some, None, Ok, Err, refl, sym, ap, subst, ◌∙◌, codes, append_assoc, bytes_eq, inl, inr}
+use Rattle.std.proofs.Common.{◌≡◌, ℕ, ◌≤◌, Bool, true, false, List, [], ◌∷◌, ◌++◌, length, map, flat_map, Option, Some, None, Ok, refl, sym, ap, subst, ◌∙◌, codes, bytes_eq, inl, inr}
 use Rattle.std.proofs.lemmas.Bool.{cases_Bool}
 use Rattle.std.proofs.lemmas.Slice.Eq.{bytes_eq-Decides}
-use Rattle.il_model.specs.declared.written.WrittenName.{WrittenName}
 use Rattle.il_model.specs.declared.written.WrittenType.{WrittenType}
 use Rattle.il_model.specs.declared.written.WrittenParam.{WrittenParam}
 use Rattle.il_model.specs.declared.written.WrittenLine.{WrittenLine}
 use Rattle.il_model.specs.declared.written.WrittenClause.{WrittenClause}
 use Rattle.il_model.specs.declared.written.WrittenBody.{WrittenBody}
-use Rattle.il_model.specs.Lexemes.{Lexeme, Is, IsName, is_among, name_at, Many, Separated, last, next}
+use Rattle.il_model.specs.Lexemes.{Lexeme, Is, Separated, last, next}
 use Rattle.il_model.specs.Bounds.{instrs_of, types_of_params, types_of_body}
 use Rattle.il_model.specs.Types.{IsParam}
 use Rattle.il_model.specs.Instructions.{IsLabel, label_name}
-use Rattle.il_model.specs.Bodies.{IsEntry, no_entry, entry, AreLocals, no_locals, locals, quoted_before, IsRange, range, IsClause, clause, IsBody, body}
+use Rattle.il_model.specs.Bodies.{IsEntry, no_entry, entry, AreLocals, no_locals, locals, quoted_before, range, IsClause, clause, IsBody, body}
 use Rattle.il_parse.specs.declared.fault.ParseCause.TheVariants as cause
-use Rattle.il_parse.specs.Reading.{Read, Reader, fault_at, sees, expect, read_name, read_name_but, read_many, read_separated}
-use Rattle.il_parse.specs.Types.{read_type, read_param, read_enclosed}
+use Rattle.il_parse.specs.Reading.{Read, fault_at, sees, read_name, read_name_but, read_many, read_separated}
+use Rattle.il_parse.specs.Types.{read_type, read_param}
 use Rattle.il_parse.specs.Bodies.{read_entry, read_locals, read_lines, most_instrs, read_clause, read_body}
 use Rattle.il_parse.proofs.Finding.{none_is}
-use Rattle.il_parse.proofs.Steps.{AreSpelled, spelled_rest, Took, Sound, refusal, value_of, rest_of, stepped, stepped_over, seen, Seen, there, absent, joined, led}
+use Rattle.il_parse.proofs.Steps.{AreSpelled, spelled_rest, Took, Sound, refusal, value_of, rest_of, stepped, stepped_over, seen, there, absent, joined, led}
 use Rattle.il_parse.proofs.TypesSound.{FreeOf, no_quoted}
-use Rattle.il_parse.proofs.ListsSound.{type_sound, NameRead, name_sound, IsBoth, AreSmall, small-append, many_sound, many_small}
-use Rattle.il_parse.proofs.PartsSound.{free_more, param_list_sound, enclosed_sound, enclosed_joined, Enclosed}
-use Rattle.il_parse.proofs.InstrsSound.{CallsAreSound, types_of_instr, LinesRead, lines_sound}
+use Rattle.il_parse.proofs.ListsSound.{type_sound, name_sound, IsBoth, AreSmall, small-append, many_sound, many_small}
+use Rattle.il_parse.proofs.PartsSound.{free_more, param_list_sound, enclosed_sound}
+use Rattle.il_parse.proofs.InstrsSound.{CallsAreSound, types_of_instr, lines_sound}
 
 -- the entry point that is read, if one is
 data EntryRead (may_begin : Bool) (ws : List Lexeme) (back : List Lexeme) : Option ℕ → Type 0 where
@@ -36,13 +35,15 @@ entry_read may_begin (l ∷ ws) o back e =
     elim (cases_Bool (bytes_eq (codes ".entrypoint") l.bytes)) [
       | inl hit ↦ elim (cases_Bool may_begin) [
         | inl may ↦
-          let e2 : (let r : Read (Option ℕ) = Ok (Some l.at, ws) in r ≡ Ok (o, back)) = rw (hit, may) at e in
-          subst (EntryRead may_begin (l ∷ ws) back) (value_of (Some l.at) o ws back e2)
-              (begun l (ap (λ z. l ∷ z) (rest_of (Some l.at) o ws back e2)) (sym ((bytes_eq-Decides (codes ".entrypoint") l.bytes).0 hit)) may)
-        | inr not_here ↦ refusal (fault_at (l ∷ ws) cause.Syntax) o back (rw (hit, not_here) at e) ]
+            let e2 : (let r : Read (Option ℕ) = Ok (Some l.at, ws) in r ≡ Ok (o, back)) = rw (hit, may) at e in
+            subst (EntryRead may_begin (l ∷ ws) back) (value_of (Some l.at) o ws back e2)
+            (begun l (ap (λ z. l ∷ z) (rest_of (Some l.at) o ws back e2)) (sym ((bytes_eq-Decides (codes ".entrypoint") l.bytes).0 hit)) may)
+        | inr not_here ↦ refusal (fault_at (l ∷ ws) cause.Syntax) o back (rw (hit, not_here) at e)
+      ]
       | inr miss ↦
-        let e2 : (let r : Read (Option ℕ) = Ok (None, l ∷ ws) in r ≡ Ok (o, back)) = rw miss at e in
-        subst (EntryRead may_begin (l ∷ ws) back) (value_of None o (l ∷ ws) back e2) (plain (rest_of None o (l ∷ ws) back e2) miss) ]
+          let e2 : (let r : Read (Option ℕ) = Ok (None, l ∷ ws) in r ≡ Ok (o, back)) = rw miss at e in
+          subst (EntryRead may_begin (l ∷ ws) back) (value_of None o (l ∷ ws) back e2) (plain (rest_of None o (l ∷ ws) back e2) miss)
+    ]
 
 -- the locals that are read, if any are
 data LocalsRead (ws back : List Lexeme) (ps : List WrittenParam) : Type 0 where
@@ -63,13 +64,14 @@ unfolding read_locals
 locals_read ws ps back e =
     elim (seen (codes ".locals") ws) [
       | there l rest split same hit behind ↦
-        stepped_over (codes "init") rest _ ps back (rw (hit, behind) at e) (λ init mid s h f.
-        let n = enclosed_sound (read_separated read_param (codes ",")) (IsBoth (Separated (codes ",") IsParam) types_of_params) param_list_sound mid ps back f in
-        listed ws back (l ∷ init ∷ n.left ∷ n.inner ++ n.right ∷ []) n.inner l init n.left n.right ps refl
-            (split ∙ ap (λ z. l ∷ z) (s ∙ ap (λ z. init ∷ z) n.split)) same h n.opens n.holds.is n.closes n.holds.small)
+          stepped_over (codes "init") rest _ ps back (rw (hit, behind) at e) (λ init mid s h f.
+          let n = enclosed_sound (read_separated read_param (codes ",")) (IsBoth (Separated (codes ",") IsParam) types_of_params) param_list_sound mid ps back f in
+          listed ws back (l ∷ init ∷ n.left ∷ n.inner ++ n.right ∷ []) n.inner l init n.left n.right ps refl
+          (split ∙ ap (λ z. l ∷ z) (s ∙ ap (λ z. init ∷ z) n.split)) same h n.opens n.holds.is n.closes n.holds.small)
       | absent miss stays ↦
-        let e2 : (let r : Read (List WrittenParam) = Ok ([], ws) in r ≡ Ok (ps, back)) = rw (miss, stays) at e in
-        without (rest_of [] ps ws back e2) miss (sym (value_of [] ps ws back e2)) ]
+          let e2 : (let r : Read (List WrittenParam) = Ok ([], ws) in r ≡ Ok (ps, back)) = rw (miss, stays) at e in
+          without (rest_of [] ps ws back e2) miss (sym (value_of [] ps ws back e2))
+    ]
 
 abbrev pub type_of_clause : WrittenClause → List WrittenType
 type_of_clause c = c.catches ∷ []
@@ -154,12 +156,12 @@ free_before : (may_begin : Bool) (ws mid back : List Lexeme) (o : Option ℕ) (p
 free_before may_begin ws mid back o ps e (some_locals front p rest split is are small) = subst (λ qs. FreeOf (quoted_before o qs) back) (sym is) (no_quoted back)
 free_before may_begin ws mid back o ps (begun l split same may) (without stays miss is) =
     subst (λ qs. FreeOf (quoted_before (Some l.at) qs) back) (sym is)
-        (subst (FreeOf (codes ".locals" ∷ [])) stays (free_more (codes ".locals") [] mid miss (no_quoted mid)))
+    (subst (FreeOf (codes ".locals" ∷ [])) stays (free_more (codes ".locals") [] mid miss (no_quoted mid)))
 free_before may_begin ws mid back o ps (plain split none_here) (without stays miss is) =
     subst (λ qs. FreeOf (quoted_before None qs) back) (sym is)
-        (subst (FreeOf (codes ".entrypoint" ∷ codes ".locals" ∷ [])) stays
-            (free_more (codes ".entrypoint") (codes ".locals" ∷ []) mid (sym (ap (sees (codes ".entrypoint")) split) ∙ none_here)
-                (free_more (codes ".locals") [] mid miss (no_quoted mid))))
+    (subst (FreeOf (codes ".entrypoint" ∷ codes ".locals" ∷ [])) stays
+    (free_more (codes ".entrypoint") (codes ".locals" ∷ []) mid (sym (ap (sees (codes ".entrypoint")) split) ∙ none_here)
+    (free_more (codes ".locals") [] mid miss (no_quoted mid))))
 
 pub body_sound : CallsAreSound → (may_begin : Bool) → (ws : List Lexeme) (b : WrittenBody) (back : List Lexeme) → AreSpelled ws → read_body may_begin ws ≡ Ok (b, back) →
     Took (BodyRead may_begin) ws b back

@@ -1,36 +1,33 @@
 -- What is read as classes is that of the grammar, within the limits, where calls are.
-use Rattle.std.proofs.Common.{◌≡◌, ℕ, zero, suc, ◌+◌, ◌-◌, ◌==◌, ◌<◌, ◌≤◌, Bool, true, false, ◌&&◌, if◌then◌else◌, List, [], ◌∷◌, ◌++◌, drop, length, map, flat_map, option_to_list, Option, Some, None, Ok, Err, refl, sym, ap, subst, ◌∙◌, codes, append_assoc, append-nil, bytes_eq, inl, inr, arith, find, Contains, option_map, All, slice_index_or}
+use Rattle.std.proofs.Common.{◌≡◌, ℕ, zero, suc, ◌+◌, ◌-◌, ◌==◌, ◌≤◌, Bool, true, ◌&&◌, List, [], ◌∷◌, ◌++◌, drop, length, map, flat_map, option_to_list, Option, Some, None, Ok, refl, sym, ap, subst, ◌∙◌, codes, append_assoc, append-nil, bytes_eq, inl, inr, arith, find, Contains, option_map}
 use Rattle.std.specs.List.{AllByRecursion}
 use Rattle.std.proofs.lemmas.Bool.{true≢false, cases_Bool, and_parts, eqb-false}
-use Rattle.std.proofs.lemmas.List.{length-append}
 use Rattle.std.proofs.lemmas.Slice.Eq.{bytes_eq-Decides}
 use Rattle.il_model.specs.declared.class.ClassKind.{ClassKind}
 use Rattle.il_model.specs.declared.class.ClassKind.TheVariants as kind
 use Rattle.il_model.specs.declared.written.WrittenName.{WrittenName}
 use Rattle.il_model.specs.declared.written.WrittenType.{WrittenType}
-use Rattle.il_model.specs.declared.written.WrittenVar.{WrittenVar}
-use Rattle.il_model.specs.declared.written.WrittenBody.{WrittenBody}
 use Rattle.il_model.specs.declared.written.WrittenField.{WrittenField}
 use Rattle.il_model.specs.declared.written.WrittenMethod.{WrittenMethod}
 use Rattle.il_model.specs.declared.written.WrittenMember.{WrittenMember}
 use Rattle.il_model.specs.declared.written.WrittenMember.TheVariants as member
 use Rattle.il_model.specs.declared.written.WrittenClass.{WrittenClass}
-use Rattle.il_model.specs.Lexemes.{Lexeme, Is, IsName, name_at, Many, none, more}
+use Rattle.il_model.specs.Lexemes.{Lexeme, Is, name_at, Many, none, more}
 use Rattle.il_model.specs.Words.{kind_words, quoted_words}
-use Rattle.il_model.specs.Bounds.{types_of_vars, types_of_method, types_of_class, fields_of, methods_of, all_methods}
-use Rattle.il_model.specs.Classes.{IsMember, field_member, method_member, IsKind, plain, worded, IsBase, no_base, base_of_plain, base_of_abstract, AreInterfaces, no_interfaces, interfaces, IsClass, class, IsProgram}
+use Rattle.il_model.specs.Bounds.{types_of_vars, types_of_method, types_of_class, fields_of, methods_of}
+use Rattle.il_model.specs.Classes.{IsMember, field_member, method_member, IsKind, plain, worded, IsBase, no_base, base_of_plain, base_of_abstract, AreInterfaces, no_interfaces, interfaces, IsClass, class}
 use Rattle.il_model.specs.Types.{IsType, AreTypes, last_type, next_type}
 use Rattle.il_parse.specs.declared.fault.ParseCause.TheVariants as cause
-use Rattle.il_parse.specs.Reading.{Read, Reader, fault_at, stuck_fault, sees, expect, expect_at, read_name_but}
-use Rattle.il_parse.specs.Types.{read_type, read_types, read_vars}
-use Rattle.il_parse.specs.Classes.{read_field, read_method, is_empty, Members, members_from, read_members, kind_or_plain, read_kind, has_base, read_base, read_interfaces, most_class_vars, read_class, classes_from}
+use Rattle.il_parse.specs.Reading.{Read, fault_at, sees, expect_at, read_name_but}
+use Rattle.il_parse.specs.Types.{read_type, read_vars}
+use Rattle.il_parse.specs.Classes.{read_field, read_method, is_empty, Members, members_from, read_members, kind_or_plain, read_kind, has_base, read_base, read_interfaces, most_class_vars, read_class}
 use Rattle.il_parse.proofs.Finding.{found_in, made}
-use Rattle.il_parse.proofs.Steps.{AreSpelled, spelled_rest, Took, Sound, refusal, value_of, rest_of, stepped, stepped_over, seen, Seen, there, absent, joined, led}
+use Rattle.il_parse.proofs.Steps.{AreSpelled, spelled_rest, Took, Sound, refusal, value_of, rest_of, stepped, stepped_over, seen, there, absent, joined, led}
 use Rattle.il_parse.proofs.TypesSound.{no_quoted}
-use Rattle.il_parse.proofs.ListsSound.{type_sound, NameRead, name_sound, IsBoth, AreSmall, small-append, types_sound}
-use Rattle.il_parse.proofs.PartsSound.{IsVars, vars_sound}
+use Rattle.il_parse.proofs.ListsSound.{type_sound, name_sound, IsBoth, AreSmall, small-append, types_sound}
+use Rattle.il_parse.proofs.PartsSound.{vars_sound}
 use Rattle.il_parse.proofs.InstrsSound.{CallsAreSound}
-use Rattle.il_parse.proofs.MethodsSound.{type_of_field, field_sound, MethodFine, MethodRead, method_sound, place_read}
+use Rattle.il_parse.proofs.MethodsSound.{type_of_field, field_sound, MethodFine, method_sound, place_read}
 
 -- members that were read behind those found, with the number of methods that may still come
 pub record MembersRead (plain_class : Bool) (left : ℕ) (found : List WrittenMember) (ws : List Lexeme) (ys : Members) (back : List Lexeme) : Type 0 where
@@ -64,37 +61,40 @@ module _ (call_sound : CallsAreSound) where
   members_sound plain_class (suc n) left found ws ys back spelled e =
       elim (cases_Bool (sees (codes ".field") ws)) [
         | inl hit ↦
-          stepped (read_field ws) _ ys back (rw hit at e) (λ f mid e0 f0.
-          let t = field_sound ws f mid e0 in
-          let m = members_sound plain_class n left (found ++ member.Field f ∷ []) mid ys back (spelled_rest ws t.front mid t.split spelled) f0 in
-          record {
-            front = t.front ++ m.front;
-            items = member.Field f ∷ m.items;
-            split = joined ws t.front mid m.front back t.split m.split;
-            all = m.all ∙ append_assoc found (member.Field f ∷ []) m.items;
-            are = more (t.front ++ m.front) t.front m.front (member.Field f) m.items refl (field_member t.front f t.holds.is) m.are;
-            fields = (t.holds.small, m.fields);
-            methods = m.methods;
-            count = m.count;
-          })
+            stepped (read_field ws) _ ys back (rw hit at e) (λ f mid e0 f0.
+            let t = field_sound ws f mid e0 in
+            let m = members_sound plain_class n left (found ++ member.Field f ∷ []) mid ys back (spelled_rest ws t.front mid t.split spelled) f0 in
+            record {
+              front = t.front ++ m.front;
+              items = member.Field f ∷ m.items;
+              split = joined ws t.front mid m.front back t.split m.split;
+              all = m.all ∙ append_assoc found (member.Field f ∷ []) m.items;
+              are = more (t.front ++ m.front) t.front m.front (member.Field f) m.items refl (field_member t.front f t.holds.is) m.are;
+              fields = (t.holds.small, m.fields);
+              methods = m.methods;
+              count = m.count;
+            })
         | inr no_field ↦ elim (cases_Bool (sees (codes ".method") ws)) [
           | inl hit ↦ elim (cases_Bool (left == 0)) [
             | inl full ↦ refusal (fault_at ws cause.TooMany) ys back (rw (no_field, hit, full) at e)
             | inr room ↦
-              stepped (read_method plain_class ws) _ ys back (rw (no_field, hit, room) at e) (λ d mid e0 f0.
-              let t = method_sound call_sound plain_class ws d mid spelled e0 in
-              let m = members_sound plain_class n (left - 1) (found ++ member.Method d ∷ []) mid ys back (spelled_rest ws t.front mid t.split spelled) f0 in
-              record {
-                front = t.front ++ m.front;
-                items = member.Method d ∷ m.items;
-                split = joined ws t.front mid m.front back t.split m.split;
-                all = m.all ∙ append_assoc found (member.Method d ∷ []) m.items;
-                are = more (t.front ++ m.front) t.front m.front (member.Method d) m.items refl (method_member t.front d t.holds.is) m.are;
-                fields = m.fields;
-                methods = (t.holds.fine, m.methods);
-                count = omega (arith, m.count, eqb-false left 0 room);
-              }) ]
-          | inr no_method ↦ no_members plain_class left found ws ys back (rw (no_field, no_method) at e) ] ]
+                stepped (read_method plain_class ws) _ ys back (rw (no_field, hit, room) at e) (λ d mid e0 f0.
+                let t = method_sound call_sound plain_class ws d mid spelled e0 in
+                let m = members_sound plain_class n (left - 1) (found ++ member.Method d ∷ []) mid ys back (spelled_rest ws t.front mid t.split spelled) f0 in
+                record {
+                  front = t.front ++ m.front;
+                  items = member.Method d ∷ m.items;
+                  split = joined ws t.front mid m.front back t.split m.split;
+                  all = m.all ∙ append_assoc found (member.Method d ∷ []) m.items;
+                  are = more (t.front ++ m.front) t.front m.front (member.Method d) m.items refl (method_member t.front d t.holds.is) m.are;
+                  fields = m.fields;
+                  methods = (t.holds.fine, m.methods);
+                  count = omega (arith, m.count, eqb-false left 0 room);
+                })
+          ]
+          | inr no_method ↦ no_members plain_class left found ws ys back (rw (no_field, no_method) at e)
+        ]
+      ]
 
 kind_made : (o : Option ClassKind) (l : Lexeme) (ws : List Lexeme) (k : ClassKind) (back : List Lexeme) →
     ((j : ClassKind) → o ≡ Some j → IsKind (l ∷ []) j) → kind_or_plain o l ws ≡ Ok (k, back) → Took IsKind (l ∷ ws) k back
@@ -131,24 +131,26 @@ base_sound k ws o back e =
     elim (cases_Bool (has_base k && sees (codes "extends") ws)) [
       | inl hit ↦ elim (seen (codes "extends") ws) [
         | there l rest split same found behind ↦
-          stepped (read_type (drop 1 ws)) _ o back (rw hit at e) (λ t mid e0 f0.
-          let s = type_sound [] (drop 1 ws) t mid (no_quoted (drop 1 ws)) e0 in
-          record {
-            front = l ∷ s.front;
-            split = split ∙ ap (λ z. l ∷ z) (sym (ap (drop 1) split) ∙ s.split ∙ ap (λ z. s.front ++ z) (rest_of (Some t) o mid back f0));
-            holds = subst (IsBoth (IsBase k) option_to_list (l ∷ s.front)) (value_of (Some t) o mid back f0) (record {
-              is = base_of_kind k (and_parts (has_base k) (sees (codes "extends") ws) hit).0 l s.front t same s.holds.is;
-              small = (s.holds.small, tt);
-            });
-          })
-        | absent miss stays ↦ absurd (true≢false (sym (and_parts (has_base k) (sees (codes "extends") ws) hit).1 ∙ miss)) ]
+            stepped (read_type (drop 1 ws)) _ o back (rw hit at e) (λ t mid e0 f0.
+            let s = type_sound [] (drop 1 ws) t mid (no_quoted (drop 1 ws)) e0 in
+            record {
+              front = l ∷ s.front;
+              split = split ∙ ap (λ z. l ∷ z) (sym (ap (drop 1) split) ∙ s.split ∙ ap (λ z. s.front ++ z) (rest_of (Some t) o mid back f0));
+              holds = subst (IsBoth (IsBase k) option_to_list (l ∷ s.front)) (value_of (Some t) o mid back f0) (record {
+                is = base_of_kind k (and_parts (has_base k) (sees (codes "extends") ws) hit).0 l s.front t same s.holds.is;
+                small = (s.holds.small, tt);
+              });
+            })
+        | absent miss stays ↦ absurd (true≢false (sym (and_parts (has_base k) (sees (codes "extends") ws) hit).1 ∙ miss))
+      ]
       | inr miss ↦
-        let e2 : (let r : Read (Option WrittenType) = Ok (None, ws) in r ≡ Ok (o, back)) = rw miss at e in
-        record {
-          front = [];
-          split = rest_of None o ws back e2;
-          holds = subst (IsBoth (IsBase k) option_to_list []) (value_of None o ws back e2) (record { is = no_base k; small = tt });
-        } ]
+          let e2 : (let r : Read (Option WrittenType) = Ok (None, ws) in r ≡ Ok (o, back)) = rw miss at e in
+          record {
+            front = [];
+            split = rest_of None o ws back e2;
+            holds = subst (IsBoth (IsBase k) option_to_list []) (value_of None o ws back e2) (record { is = no_base k; small = tt });
+          }
+    ]
 
 listed_interfaces : (l : Lexeme) (ws : List Lexeme) (ts : List WrittenType) → Is (codes "implements") l → AreTypes (codes ",") ws ts → AreInterfaces (l ∷ ws) ts
 listed_interfaces l ws ts same (last_type mark inner t is) = interfaces l ws t [] same (last_type (codes ",") ws t is)
@@ -159,19 +161,20 @@ unfolding read_interfaces
 interfaces_sound ws ts back e =
     elim (seen (codes "implements") ws) [
       | there l rest split same hit behind ↦
-        let s = types_sound (codes ",") rest ts back (rw (hit, behind) at e) in
-        record {
-          front = l ∷ s.front;
-          split = split ∙ ap (λ z. l ∷ z) s.split;
-          holds = record { is = listed_interfaces l s.front ts same s.holds.is; small = s.holds.small };
-        }
+          let s = types_sound (codes ",") rest ts back (rw (hit, behind) at e) in
+          record {
+            front = l ∷ s.front;
+            split = split ∙ ap (λ z. l ∷ z) s.split;
+            holds = record { is = listed_interfaces l s.front ts same s.holds.is; small = s.holds.small };
+          }
       | absent miss stays ↦
-        let e2 : (let r : Read (List WrittenType) = Ok ([], ws) in r ≡ Ok (ts, back)) = rw (miss, stays) at e in
-        record {
-          front = [];
-          split = rest_of [] ts ws back e2;
-          holds = subst (IsBoth AreInterfaces (λ us. us) []) (value_of [] ts ws back e2) (record { is = no_interfaces; small = tt });
-        } ]
+          let e2 : (let r : Read (List WrittenType) = Ok ([], ws) in r ≡ Ok (ts, back)) = rw (miss, stays) at e in
+          record {
+            front = [];
+            split = rest_of [] ts ws back e2;
+            holds = subst (IsBoth AreInterfaces (λ us. us) []) (value_of [] ts ws back e2) (record { is = no_interfaces; small = tt });
+          }
+    ]
 
 -- a class that was read, within the limits, where so many methods could come
 pub record ClassRead (left : ℕ) (ws : List Lexeme) (p : WrittenClass × ℕ) : Type 0 where
@@ -215,14 +218,14 @@ class_sound call_sound left ws p back spelled e =
     let spelled7 = spelled_rest ws6 (opening ∷ []) ws7 s6 (spelled_rest ws (a.token ∷ b.front ++ n.token ∷ v.front ++ x.front ++ i.front) ws6 t4 spelled) in
     let m = members_sound call_sound (is_empty vars) (length ws7) left [] ws7 members ws8 spelled7 e7 in
     let made : WrittenClass × ℕ =
-        (record { at = at; kind = k; name = name; vars = vars; base = base; interfaces = interfaces; members = members.0 }, members.1) in
+    (record { at = at; kind = k; name = name; vars = vars; base = base; interfaces = interfaces; members = members.0 }, members.1) in
     let named : WrittenClass × ℕ =
-        (record { at = a.token.at; kind = k; name = name_at n.token; vars = vars; base = base; interfaces = interfaces; members = m.items }, members.1) in
+    (record { at = a.token.at; kind = k; name = name_at n.token; vars = vars; base = base; interfaces = interfaces; members = m.items }, members.1) in
     let whole : List Lexeme = a.token ∷ b.front ++ n.token ∷ v.front ++ x.front ++ i.front ++ opening ∷ m.front ++ closing ∷ [] in
     let same : named ≡ made =
-        ap (λ (y : ℕ). (record { at = y; kind = k; name = name_at n.token; vars = vars; base = base; interfaces = interfaces; members = m.items }, members.1)) (sym a.place)
-        ∙ ap (λ (y : WrittenName). (record { at = at; kind = k; name = y; vars = vars; base = base; interfaces = interfaces; members = m.items }, members.1)) (sym n.at)
-        ∙ ap (λ (y : List WrittenMember). (record { at = at; kind = k; name = name; vars = vars; base = base; interfaces = interfaces; members = y }, members.1)) (sym m.all) in
+    ap (λ (y : ℕ). (record { at = y; kind = k; name = name_at n.token; vars = vars; base = base; interfaces = interfaces; members = m.items }, members.1)) (sym a.place)
+    ∙ ap (λ (y : WrittenName). (record { at = at; kind = k; name = y; vars = vars; base = base; interfaces = interfaces; members = m.items }, members.1)) (sym n.at)
+    ∙ ap (λ (y : List WrittenMember). (record { at = at; kind = k; name = name; vars = vars; base = base; interfaces = interfaces; members = y }, members.1)) (sym m.all) in
     let t5 = joined ws (a.token ∷ b.front ++ n.token ∷ v.front ++ x.front ++ i.front) ws6 (opening ∷ m.front) ws8 t4 (led ws6 opening ws7 m.front ws8 s6 m.split) in
     let t6 = joined ws (a.token ∷ b.front ++ n.token ∷ v.front ++ x.front ++ i.front ++ opening ∷ m.front) ws8 (closing ∷ []) ws9 t5 s8 in
     record {
@@ -233,9 +236,9 @@ class_sound call_sound left ws p back spelled e =
             refl a.same b.holds n.is v.holds.is x.holds.is i.holds.is h6 m.are h8;
         small = small-append (types_of_vars vars ++ option_to_list base ++ interfaces ++ map (λ f. f.kind) (fields_of m.items)) (flat_map types_of_method (methods_of m.items))
             (small-append (types_of_vars vars ++ option_to_list base ++ interfaces) (map (λ f. f.kind) (fields_of m.items))
-                (small-append (types_of_vars vars ++ option_to_list base) interfaces
-                    (small-append (types_of_vars vars) (option_to_list base) v.holds.small x.holds.small) i.holds.small)
-                (small_fields (fields_of m.items) m.fields))
+            (small-append (types_of_vars vars ++ option_to_list base) interfaces
+            (small-append (types_of_vars vars) (option_to_list base) v.holds.small x.holds.small) i.holds.small)
+            (small_fields (fields_of m.items) m.fields))
             (small_methods (is_empty vars) (methods_of m.items) m.methods);
         vars = v.holds.few;
         methods = m.methods;

@@ -1,9 +1,8 @@
 -- What is found in a list is in it.
-use Rattle.std.proofs.Common.{◌≡◌, ℕ, zero, suc, ◌+◌, ◌<◌, Bool, true, false, cond, List, [], ◌∷◌, length, Option, Some, None, refl, sym, ap, subst, ◌∙◌, bytes_eq, arith, find, Contains, All, ◌++◌, option_map, is_some, slice_index_or, inl, inr}
+use Rattle.std.proofs.Common.{◌≡◌, zero, suc, Bool, true, false, cond, List, [], ◌∷◌, Option, Some, None, refl, sym, ap, subst, ◌∙◌, arith, find, Contains, All, ◌++◌, option_map, is_some, inl, inr}
 use Rattle.std.specs.Option.{unwrap_or}
 use Rattle.std.specs.List.{AllByRecursion, list_any, list_all}
 use Rattle.std.proofs.lemmas.Bool.{true≢false, cases_Bool, and_parts}
-use Rattle.std.proofs.lemmas.Slice.Eq.{bytes_eq-Decides}
 
 pub some_is : {A : Type 0} (x y : A) → Some x ≡ Some y → x ≡ y
 some_is x y e = ap (λ o. unwrap_or o x) e
@@ -19,11 +18,12 @@ found_in test [] x e = none_is x e
 found_in test (y ∷ xs) x e =
     elim (cases_Bool (test y)) [
       | inl hit ↦
-        let is : y ≡ x = some_is y x (ap (λ b. cond b (Some y) (find test xs)) (sym hit) ∙ e) in
-        ((0, omega arith, is), subst (λ z. test z ≡ true) is hit)
+          let is : y ≡ x = some_is y x (ap (λ b. cond b (Some y) (find test xs)) (sym hit) ∙ e) in
+          ((0, omega arith, is), subst (λ z. test z ≡ true) is hit)
       | inr miss ↦
-        let later = found_in test xs x (ap (λ b. cond b (Some y) (find test xs)) (sym miss) ∙ e) in
-        (contains_later y xs x later.0, later.1) ]
+          let later = found_in test xs x (ap (λ b. cond b (Some y) (find test xs)) (sym miss) ∙ e) in
+          (contains_later y xs x later.0, later.1)
+    ]
 
 -- what holds of each item holds of the one that is found
 pub found_holds : {X : Type 0} (P : X → Type 0) (test : X → Bool) (xs : List X) (x : X) → AllByRecursion P xs → find test xs ≡ Some x → P x
@@ -31,7 +31,8 @@ found_holds P test [] x all e = none_is x e
 found_holds P test (y ∷ xs) x all e =
     elim (cases_Bool (test y)) [
       | inl hit ↦ subst P (some_is y x (ap (λ b. cond b (Some y) (find test xs)) (sym hit) ∙ e)) all.0
-      | inr miss ↦ found_holds P test xs x all.1 (ap (λ b. cond b (Some y) (find test xs)) (sym miss) ∙ e) ]
+      | inr miss ↦ found_holds P test xs x all.1 (ap (λ b. cond b (Some y) (find test xs)) (sym miss) ∙ e)
+    ]
 
 -- the item behind a value that is made of what is found
 pub record Made {X Y : Type 0} (f : X → Y) (o : Option X) (y : Y) : Type 0 where
@@ -49,7 +50,8 @@ none_found test [] e = refl
 none_found test (y ∷ xs) e =
     elim (cases_Bool (test y)) [
       | inl hit ↦ none_is y (sym e ∙ ap (λ b. cond b (Some y) (find test xs)) hit)
-      | inr miss ↦ rw miss (none_found test xs (ap (λ b. cond b (Some y) (find test xs)) (sym miss) ∙ e)) ]
+      | inr miss ↦ rw miss (none_found test xs (ap (λ b. cond b (Some y) (find test xs)) (sym miss) ∙ e))
+    ]
 
 pub unmade : {X Y : Type 0} (f : X → Y) (o : Option X) → option_map f o ≡ None → o ≡ None
 unmade f None e = refl
@@ -62,7 +64,8 @@ found_passes p test (y ∷ xs) x all e =
     let parts = and_parts (p y) (list_all p xs) all in
     elim (cases_Bool (test y)) [
       | inl hit ↦ subst (λ z. p z ≡ true) (some_is y x (ap (λ b. cond b (Some y) (find test xs)) (sym hit) ∙ e)) parts.0
-      | inr miss ↦ found_passes p test xs x parts.1 (ap (λ b. cond b (Some y) (find test xs)) (sym miss) ∙ e) ]
+      | inr miss ↦ found_passes p test xs x parts.1 (ap (λ b. cond b (Some y) (find test xs)) (sym miss) ∙ e)
+    ]
 
 pub all_of : {X : Type 0} (P : X → Type 0) (xs : List X) → AllByRecursion P xs → All P xs
 all_of P [] all k d inside = absurd (omega (arith, inside))

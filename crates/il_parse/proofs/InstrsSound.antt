@@ -1,7 +1,6 @@
 -- What is read as instructions and lines is that of the grammar, within the limits, where calls are.
-use Rattle.std.proofs.Common.{◌≡◌, ℕ, zero, suc, ◌+◌, ◌-◌, ◌==◌, ◌≤◌, Bool, true, false, not, ◌&&◌, if◌then◌else◌, List, [], ◌∷◌, ◌++◌, drop, length, flat_map, Option, Some, None, Ok, Err, refl, sym, ap, subst, ◌∙◌, codes, append_assoc, append-nil, bytes_eq, inl, inr, arith}
+use Rattle.std.proofs.Common.{◌≡◌, ℕ, zero, suc, ◌-◌, ◌==◌, ◌≤◌, Bool, true, false, not, ◌&&◌, if◌then◌else◌, List, [], ◌∷◌, ◌++◌, drop, length, flat_map, Option, Some, None, Ok, refl, sym, ap, subst, ◌∙◌, codes, append_assoc, append-nil, bytes_eq, inl, inr, arith}
 use Rattle.std.proofs.lemmas.Bool.{true≢false, cases_Bool, and_parts, or_from, eqb-false}
-use Rattle.std.proofs.lemmas.Slice.Eq.{bytes_eq-Decides}
 use Rattle.il_text.specs.declared.token.TokenKind.{TokenKind}
 use Rattle.il_text.specs.declared.token.TokenKind.TheVariants as token
 use Rattle.il_model.specs.declared.form.Form.{Form}
@@ -10,18 +9,17 @@ use Rattle.il_model.specs.declared.written.WrittenOperand.{WrittenOperand}
 use Rattle.il_model.specs.declared.written.WrittenInstr.{WrittenInstr}
 use Rattle.il_model.specs.declared.written.WrittenLine.{WrittenLine}
 use Rattle.il_model.specs.declared.written.WrittenLine.TheVariants as line
-use Rattle.il_model.specs.Lexemes.{Lexeme, Is, IsName, is_among, name_at}
+use Rattle.il_model.specs.Lexemes.{Lexeme, Is, is_among, name_at}
 use Rattle.il_model.specs.Forms.{operand_kind}
 use Rattle.il_model.specs.Bounds.{types_of_operand, instrs_of}
 use Rattle.il_model.specs.Instructions.{IsInstr, long, short, short_whole}
 use Rattle.il_model.specs.Bodies.{AreLines, no_lines, labelled, instruction}
-use Rattle.il_model.specs.Spellings.{Shortened, shortened}
 use Rattle.il_parse.specs.declared.fault.ParseCause.TheVariants as cause
-use Rattle.il_parse.specs.Reading.{Read, Reader, stuck_fault, fault_at, sees, unsupported_words, is_word_kind}
+use Rattle.il_parse.specs.Reading.{Read, stuck_fault, fault_at, sees, unsupported_words, is_word_kind}
 use Rattle.il_parse.specs.Mnemonics.{Mnemonic, calls, takes, holds, mnemonic_of}
 use Rattle.il_parse.specs.Operands.{read_operand, read_call, read_meaning, read_instr}
 use Rattle.il_parse.specs.Bodies.{LineStart, no_line, labels, instructs, left_out, unknown, start_of_word, line_start, read_line, lines_from}
-use Rattle.il_parse.proofs.Steps.{AreSpelled, spelled_rest, Took, refusal, value_of, rest_of, stepped, seen, Seen, there, absent, joined, led}
+use Rattle.il_parse.proofs.Steps.{AreSpelled, spelled_rest, Took, refusal, value_of, rest_of, stepped, seen, there, absent, joined}
 use Rattle.il_parse.proofs.TypesSound.{FreeOf, no_quoted}
 use Rattle.il_parse.proofs.ListsSound.{IsBoth, AreSmall, small-append}
 use Rattle.il_parse.proofs.WordsSound.{Meant, meant_call, meant_long, meant_short, meant_whole, mnemonic_sound}
@@ -155,35 +153,37 @@ module _ (call_sound : CallsAreSound) where
   line_sound n others quoted left found l ws ys back spelled free labels (started_label word no_try hit) e =
       elim (seen (codes ":") ws) [
         | there colon rest split same hit2 behind ↦
-          let behind_colon : drop 1 ws ≡ rest = ap (drop 1) split in
-          let m = others left (found ++ line.Label (name_at l) ∷ []) (drop 1 ws) ys back (subst AreSpelled (sym behind_colon) (spelled_rest ws (colon ∷ []) rest split spelled)) e in
-          record {
-            front = l ∷ colon ∷ m.front;
-            items = line.Label (name_at l) ∷ m.items;
-            split = ap (λ z. l ∷ z) (split ∙ ap (λ z. colon ∷ z) (sym behind_colon ∙ m.split));
-            all = m.all ∙ append_assoc found (line.Label (name_at l) ∷ []) m.items;
-            are = labelled quoted l colon m.front m.items
-                (record { word = word; free = or_from (bytes_eq (codes ".try") l.bytes) (is_among quoted l.bytes) no_try free }) same m.are;
-            small = m.small;
-            few = m.few;
-          }
-        | absent miss stays ↦ absurd (true≢false (sym hit ∙ miss)) ]
+            let behind_colon : drop 1 ws ≡ rest = ap (drop 1) split in
+            let m = others left (found ++ line.Label (name_at l) ∷ []) (drop 1 ws) ys back (subst AreSpelled (sym behind_colon) (spelled_rest ws (colon ∷ []) rest split spelled)) e in
+            record {
+              front = l ∷ colon ∷ m.front;
+              items = line.Label (name_at l) ∷ m.items;
+              split = ap (λ z. l ∷ z) (split ∙ ap (λ z. colon ∷ z) (sym behind_colon ∙ m.split));
+              all = m.all ∙ append_assoc found (line.Label (name_at l) ∷ []) m.items;
+              are = labelled quoted l colon m.front m.items
+                  (record { word = word; free = or_from (bytes_eq (codes ".try") l.bytes) (is_among quoted l.bytes) no_try free }) same m.are;
+              small = m.small;
+              few = m.few;
+            }
+        | absent miss stays ↦ absurd (true≢false (sym hit ∙ miss))
+      ]
   line_sound n others quoted left found l ws ys back spelled free (instructs says) (started_instr same is) e =
       elim (cases_Bool (left == 0)) [
         | inl full ↦ refusal (fault_at (l ∷ ws) cause.TooMany) ys back (rw full at e)
         | inr room ↦
-          stepped (read_instr l.at says ws) _ ys back (rw room at e) (λ i mid e0 f0.
-          let t = instr_sound l says is ws i mid spelled e0 in
-          let m = others (left - 1) (found ++ line.Instr i ∷ []) mid ys back (spelled_rest ws t.front mid t.split spelled) f0 in
-          record {
-            front = l ∷ t.front ++ m.front;
-            items = line.Instr i ∷ m.items;
-            split = ap (λ z. l ∷ z) (joined ws t.front mid m.front back t.split m.split);
-            all = m.all ∙ append_assoc found (line.Instr i ∷ []) m.items;
-            are = instruction quoted (l ∷ t.front ++ m.front) (l ∷ t.front) m.front i m.items refl t.holds.is m.are;
-            small = small-append (types_of_instr i) (flat_map types_of_instr (instrs_of m.items)) t.holds.small m.small;
-            few = omega (arith, m.few, eqb-false left 0 room);
-          }) ]
+            stepped (read_instr l.at says ws) _ ys back (rw room at e) (λ i mid e0 f0.
+            let t = instr_sound l says is ws i mid spelled e0 in
+            let m = others (left - 1) (found ++ line.Instr i ∷ []) mid ys back (spelled_rest ws t.front mid t.split spelled) f0 in
+            record {
+              front = l ∷ t.front ++ m.front;
+              items = line.Instr i ∷ m.items;
+              split = ap (λ z. l ∷ z) (joined ws t.front mid m.front back t.split m.split);
+              all = m.all ∙ append_assoc found (line.Instr i ∷ []) m.items;
+              are = instruction quoted (l ∷ t.front ++ m.front) (l ∷ t.front) m.front i m.items refl t.holds.is m.are;
+              small = small-append (types_of_instr i) (flat_map types_of_instr (instrs_of m.items)) t.holds.small m.small;
+              few = omega (arith, m.few, eqb-false left 0 room);
+            })
+      ]
   line_sound n others quoted left found l ws ys back spelled free left_out started_out e = refusal (stuck_fault (l ∷ ws)) ys back e
   line_sound n others quoted left found l ws ys back spelled free unknown started_unknown e = refusal (stuck_fault ws) ys back e
 
@@ -194,4 +194,4 @@ module _ (call_sound : CallsAreSound) where
   lines_sound zero quoted left found (l ∷ ws) ys back spelled free e = nothing_read quoted left found (l ∷ ws) ys back e
   lines_sound (suc n) quoted left found (l ∷ ws) ys back spelled free e =
       line_sound n (λ room before inside lines rest p f. lines_sound n [] room before inside lines rest p (no_quoted inside) f)
-          quoted left found l ws ys back spelled.1 free (line_start l ws) (started l ws) e
+      quoted left found l ws ys back spelled.1 free (line_start l ws) (started l ws) e

@@ -1,23 +1,22 @@
 -- A type, a name and a list of the grammar are read as themselves, where what stands behind can't go on with them.
-use Rattle.std.proofs.Common.{◌≡◌, ℕ, zero, suc, ◌+◌, ◌-◌, ◌<◌, ◌≤◌, Bool, true, false, not, ◌&&◌, ◌||◌, if◌then◌else◌, List, [], ◌∷◌, ◌++◌, length, map, flat_map, Option, Some, None, Ok, Err, refl, sym, ap, subst, ◌∙◌, codes, append_assoc, bytes_eq, inl, inr, arith}
-use Rattle.std.specs.List.{AllByRecursion, list_any, list_all}
-use Rattle.std.proofs.lemmas.Bool.{true≢false, cases_Bool, or_right, or_left}
+use Rattle.std.proofs.Common.{◌≡◌, ℕ, zero, suc, ◌-◌, ◌≤◌, Bool, true, false, not, ◌&&◌, if◌then◌else◌, List, [], ◌∷◌, ◌++◌, length, flat_map, Ok, Err, refl, sym, ap, subst, ◌∙◌, codes, append_assoc, bytes_eq, inl, inr, arith}
+use Rattle.std.specs.List.{AllByRecursion}
+use Rattle.std.proofs.lemmas.Bool.{true≢false, cases_Bool, or_right}
 use Rattle.std.proofs.lemmas.List.{length-append}
 use Rattle.std.proofs.lemmas.Slice.Eq.{bytes_eq-Decides}
 use Rattle.il_text.specs.declared.token.TokenKind.TheVariants as token
 use Rattle.il_text.specs.Spelling.{spells, is_word, is_variable}
 use Rattle.il_model.specs.declared.written.WrittenType.{WrittenType}
-use Rattle.il_model.specs.declared.written.WrittenName.{WrittenName}
-use Rattle.il_model.specs.Lexemes.{Lexeme, Is, IsName, is_among, name_at, Many, none, more, Separated, last, next}
+use Rattle.il_model.specs.Lexemes.{Lexeme, Is, IsName, is_among, name_at, Separated, last, next}
 use Rattle.il_model.specs.Words.{type_words, type_keywords}
 use Rattle.il_model.specs.Bounds.{written_positions}
 use Rattle.il_model.specs.Types.{IsType, keyword, variable, named, applied, vector, AreTypes, last_type, next_type}
-use Rattle.il_parse.specs.Reading.{Read, Reader, and_then, sees, after, read_name_but, is_word_kind, stuck_fault, separated_from, read_separated}
+use Rattle.il_parse.specs.Reading.{Reader, sees, read_name_but, is_word_kind, stuck_fault, separated_from, read_separated}
 use Rattle.il_parse.specs.Types.{read_type, read_type_within, most_positions, read_types}
 use Rattle.il_parse.proofs.Steps.{AreSpelled, spelled-append, by_step}
 use Rattle.il_parse.proofs.ListsSound.{AreSmall}
 use Rattle.il_parse.proofs.Finding.{all_contains}
-use Rattle.il_parse.proofs.TypesComplete.{sees-is, sees-other, after-is, after-other, no_mark, vectors-end, type_goes, positive}
+use Rattle.il_parse.proofs.TypesComplete.{sees-is, sees-other, after-is, after-other, no_mark, vectors-end, type_goes}
 
 -- what may stand behind a type
 pub record Ends (back : List Lexeme) : Type 0 where
@@ -32,7 +31,7 @@ pub type_complete : (quoted : List (List ℕ)) (front : List Lexeme) (t : Writte
 unfolding read_type
 type_complete quoted front t back is small s ends =
     by_step (read_type_within most_positions most_positions (front ++ back)) _ _ (t, 256 - written_positions t) back
-        (type_goes most_positions quoted most_positions front t back is s ends.no_left small (omega arith) ∙ vectors-end t (256 - written_positions t) back ends.no_vector) refl
+    (type_goes most_positions quoted most_positions front t back is s ends.no_left small (omega arith) ∙ vectors-end t (256 - written_positions t) back ends.no_vector) refl
 
 -- a word with these bytes is not this mark or word
 sees-first : (m : List ℕ) (l : Lexeme) (ws : List Lexeme) → bytes_eq m l.bytes ≡ false → sees m (l ∷ ws) ≡ false
@@ -46,7 +45,8 @@ not_equal : (m bytes : List ℕ) (p : List ℕ → Bool) → p bytes ≡ true �
 not_equal m bytes p is other =
     elim (cases_Bool (bytes_eq m bytes)) [
       | inl hit ↦ absurd (true≢false (sym is ∙ ap p (sym ((bytes_eq-Decides m bytes).0 hit)) ∙ other))
-      | inr miss ↦ miss ]
+      | inr miss ↦ miss
+    ]
 
 keyword_words : AllByRecursion (λ (row : List ℕ × WrittenType). is_word row.0 ≡ true) type_words
 keyword_words = (refl, (refl, (refl, (refl, (refl, tt)))))
@@ -73,9 +73,10 @@ quoted_apart : (m : List ℕ) (quoted : List (List ℕ)) (l : Lexeme) → is_amo
 quoted_apart m quoted l inside n =
     elim (cases_Bool (bytes_eq m l.bytes)) [
       | inl hit ↦
-        let is : is_among (type_keywords ++ quoted) m ≡ true = among-append m type_keywords quoted inside in
-        absurd (true≢false (sym is ∙ ap (is_among (type_keywords ++ quoted)) ((bytes_eq-Decides m l.bytes).0 hit) ∙ n.free))
-      | inr miss ↦ miss ]
+          let is : is_among (type_keywords ++ quoted) m ≡ true = among-append m type_keywords quoted inside in
+          absurd (true≢false (sym is ∙ ap (is_among (type_keywords ++ quoted)) ((bytes_eq-Decides m l.bytes).0 hit) ∙ n.free))
+      | inr miss ↦ miss
+    ]
 
 -- nor with a word that is quoted at its place, and is no type by itself
 pub type_unquoted : (m : List ℕ) → is_variable m ≡ false → AllByRecursion (λ (row : List ℕ × WrittenType). bytes_eq m row.0 ≡ false) type_words →
@@ -137,10 +138,10 @@ module _ {A : Type 0} (item : Reader A) (P : List Lexeme → A → Type 0) (type
       let smalls = small-split (types x) (flat_map types ys) small in
       let whole : ws ++ back ≡ first ++ l ∷ (rest ++ back) = ap (λ z. z ++ back) split ∙ append_assoc first (l ∷ rest) back in
       let later = separated_from_complete mark at_mark n (found ++ x ∷ []) rest ys back t smalls.1 parts.1.1 f miss
-          (omega (arith, within, some first x p, ap length split, length-append first (l ∷ rest))) in
+      (omega (arith, within, some first x p, ap length split, length-append first (l ∷ rest))) in
       ap (separated_from item mark (suc n) found) whole
       ∙ by_step (item (first ++ l ∷ (rest ++ back))) _ _ x (l ∷ (rest ++ back)) (complete first x (l ∷ (rest ++ back)) p smalls.0 parts.0 (at_mark l (rest ++ back) same))
-          (rw (sees-is mark l (rest ++ back) same, after-is mark l (rest ++ back) same) later)
+      (rw (sees-is mark l (rest ++ back) same, after-is mark l (rest ++ back) same) later)
       ∙ ap (λ zs. Ok (zs, back)) (append_assoc found (x ∷ []) ys)
 
   pub separated_complete : (mark : List ℕ) → ((l : Lexeme) (ws : List Lexeme) → Is mark l → Follows (l ∷ ws)) →
@@ -168,4 +169,4 @@ pub types_complete : (mark : List ℕ) → bytes_eq (codes "<") mark ≡ false �
 unfolding read_types
 types_complete mark no_left no_vector front ts back are small s ends miss =
     separated_complete read_type (IsType []) (λ t. t ∷ []) Ends (λ inside t rest is m p f. type_complete [] inside t rest is m.0 p f) (type_some [])
-        mark (λ l ws same. ends_at mark l ws same no_left no_vector) front ts back (types_separated mark front ts are) (singles ts small) s ends miss
+    mark (λ l ws same. ends_at mark l ws same no_left no_vector) front ts back (types_separated mark front ts are) (singles ts small) s ends miss

@@ -1,22 +1,17 @@
 -- What is read as one type, as a name and as a list is that of the grammar.
-use Rattle.std.proofs.Common.{◌≡◌, ℕ, zero, suc, ◌+◌, ◌≤◌, Bool, true, false, List, [], ◌∷◌, ◌++◌, length, Option, Some, None, Ok, Err, refl, sym, ap, subst, ◌∙◌, append_assoc, append-nil, codes, arith, not, ◌&&◌, inl, inr, flat_map}
+use Rattle.std.proofs.Common.{◌≡◌, ℕ, zero, suc, ◌≤◌, Bool, true, false, List, [], ◌∷◌, ◌++◌, length, Ok, refl, sym, ap, subst, ◌∙◌, append_assoc, append-nil, arith, not, ◌&&◌, inl, inr, flat_map}
 use Rattle.std.specs.List.{AllByRecursion}
 use Rattle.std.proofs.lemmas.Bool.{true≢false, cases_Bool, and_parts}
 use Rattle.il_text.specs.declared.token.TokenKind.{TokenKind}
 use Rattle.il_text.specs.declared.token.TokenKind.TheVariants as token
 use Rattle.il_model.specs.declared.written.WrittenName.{WrittenName}
 use Rattle.il_model.specs.declared.written.WrittenType.{WrittenType}
-use Rattle.il_model.specs.declared.written.WrittenParam.{WrittenParam}
-use Rattle.il_model.specs.declared.written.WrittenVar.{WrittenVar}
-use Rattle.il_model.specs.declared.written.WrittenMethodRef.{WrittenMethodRef}
-use Rattle.il_model.specs.declared.written.WrittenFieldRef.{WrittenFieldRef}
-use Rattle.il_model.specs.Lexemes.{Lexeme, Is, IsName, is_among, name_at, Many, none, more, Separated, last, next, IsOptional, absent as not_written, present}
+use Rattle.il_model.specs.Lexemes.{Lexeme, IsName, is_among, name_at, Many, none, more, Separated, last, next}
 use Rattle.il_model.specs.Bounds.{written_positions}
-use Rattle.il_model.specs.Types.{IsType, AreTypes, last_type, next_type, IsResult, void, value, IsParam, by_value, pointer, AreParams, no_params, params, AreArguments, no_arguments, arguments, IsVar, unbounded, bounded, AreVars, no_vars, vars}
-use Rattle.il_model.specs.Members.{unless_read, IsMethodRef, method_ref, IsFieldRef, field_ref}
-use Rattle.il_parse.specs.Reading.{Read, Reader, stuck_fault, expect, read_name_but, read_name, is_word_kind, many_from, read_many, separated_from, read_separated, sees}
-use Rattle.il_parse.specs.Types.{read_type, read_type_within, most_positions, read_types, read_result, read_param}
-use Rattle.il_parse.proofs.Steps.{Took, Sound, refusal, value_of, rest_of, bound, seen, Seen, there, absent, expected}
+use Rattle.il_model.specs.Types.{IsType, AreTypes, last_type, next_type}
+use Rattle.il_parse.specs.Reading.{Read, Reader, stuck_fault, read_name_but, is_word_kind, many_from, read_many, separated_from, read_separated}
+use Rattle.il_parse.specs.Types.{read_type, read_type_within, most_positions, read_types}
+use Rattle.il_parse.proofs.Steps.{Took, Sound, refusal, value_of, rest_of, bound, seen, there, absent}
 use Rattle.il_parse.proofs.TypesSound.{FreeOf, no_quoted, type_within_sound}
 
 -- a type that is read, within its limit
@@ -55,23 +50,24 @@ module _ {A : Type 0} (item : Reader A) (P : List Lexeme → A → Type 0) (soun
       let t = sound ws b.value b.mid b.first in
       elim (seen mark b.mid) [
         | there l rest split same hit behind ↦
-          let m = separated_from_sound mark n (found ++ b.value ∷ []) rest ys back (rw (hit, behind) at b.second) in
-          record {
-            front = t.front ++ l ∷ m.front;
-            items = b.value ∷ m.items;
-            split = t.split ∙ ap (λ r. t.front ++ r) (split ∙ ap (λ r. l ∷ r) m.split) ∙ sym (append_assoc t.front (l ∷ m.front) back);
-            all = m.all ∙ append_assoc found (b.value ∷ []) m.items;
-            holds = next (t.front ++ l ∷ m.front) t.front m.front l b.value m.items refl t.holds same m.holds;
-          }
+            let m = separated_from_sound mark n (found ++ b.value ∷ []) rest ys back (rw (hit, behind) at b.second) in
+            record {
+              front = t.front ++ l ∷ m.front;
+              items = b.value ∷ m.items;
+              split = t.split ∙ ap (λ r. t.front ++ r) (split ∙ ap (λ r. l ∷ r) m.split) ∙ sym (append_assoc t.front (l ∷ m.front) back);
+              all = m.all ∙ append_assoc found (b.value ∷ []) m.items;
+              holds = next (t.front ++ l ∷ m.front) t.front m.front l b.value m.items refl t.holds same m.holds;
+            }
         | absent miss stays ↦
-          let e2 : (let r : Read (List A) = Ok (found ++ b.value ∷ [], b.mid) in r ≡ Ok (ys, back)) = rw (miss, stays) at b.second in
-          record {
-            front = t.front;
-            items = b.value ∷ [];
-            split = t.split ∙ ap (λ r. t.front ++ r) (rest_of (found ++ b.value ∷ []) ys b.mid back e2);
-            all = sym (value_of (found ++ b.value ∷ []) ys b.mid back e2);
-            holds = last t.front b.value t.holds;
-          } ]
+            let e2 : (let r : Read (List A) = Ok (found ++ b.value ∷ [], b.mid) in r ≡ Ok (ys, back)) = rw (miss, stays) at b.second in
+            record {
+              front = t.front;
+              items = b.value ∷ [];
+              split = t.split ∙ ap (λ r. t.front ++ r) (rest_of (found ++ b.value ∷ []) ys b.mid back e2);
+              all = sym (value_of (found ++ b.value ∷ []) ys b.mid back e2);
+              holds = last t.front b.value t.holds;
+            }
+      ]
 
   pub separated_sound : (mark : List ℕ) → Sound (read_separated item mark) (Separated mark P)
   unfolding read_separated
@@ -87,19 +83,20 @@ module _ {A : Type 0} (item : Reader A) (P : List Lexeme → A → Type 0) (soun
   many_from_sound first (suc n) found ws ys back e =
       elim (seen first ws) [
         | there l rest split same hit behind ↦
-          let b = bound (item ws) _ ys back (rw hit at e) in
-          let t = sound ws b.value b.mid b.first in
-          let m = many_from_sound first n (found ++ b.value ∷ []) b.mid ys back b.second in
-          record {
-            front = t.front ++ m.front;
-            items = b.value ∷ m.items;
-            split = t.split ∙ ap (λ r. t.front ++ r) m.split ∙ sym (append_assoc t.front m.front back);
-            all = m.all ∙ append_assoc found (b.value ∷ []) m.items;
-            holds = more (t.front ++ m.front) t.front m.front b.value m.items refl t.holds m.holds;
-          }
+            let b = bound (item ws) _ ys back (rw hit at e) in
+            let t = sound ws b.value b.mid b.first in
+            let m = many_from_sound first n (found ++ b.value ∷ []) b.mid ys back b.second in
+            record {
+              front = t.front ++ m.front;
+              items = b.value ∷ m.items;
+              split = t.split ∙ ap (λ r. t.front ++ r) m.split ∙ sym (append_assoc t.front m.front back);
+              all = m.all ∙ append_assoc found (b.value ∷ []) m.items;
+              holds = more (t.front ++ m.front) t.front m.front b.value m.items refl t.holds m.holds;
+            }
         | absent miss stays ↦
-          let e2 : (let r : Read (List A) = Ok (found, ws) in r ≡ Ok (ys, back)) = rw miss at e in
-          record { front = []; items = []; split = rest_of found ys ws back e2; all = sym (value_of found ys ws back e2) ∙ sym (append-nil found); holds = none } ]
+            let e2 : (let r : Read (List A) = Ok (found, ws) in r ≡ Ok (ys, back)) = rw miss at e in
+            record { front = []; items = []; split = rest_of found ys ws back e2; all = sym (value_of found ys ws back e2) ∙ sym (append-nil found); holds = none }
+      ]
 
   pub many_sound : (first : List ℕ) → Sound (read_many item first) (Many P)
   unfolding read_many
@@ -132,15 +129,16 @@ name_sound quoted [] name back e = refusal (stuck_fault []) name back e
 name_sound quoted (l ∷ ws) name back e =
     elim (cases_Bool (is_word_kind l.kind && not (is_among quoted l.bytes))) [
       | inl hit ↦
-        let parts = and_parts (is_word_kind l.kind) (not (is_among quoted l.bytes)) hit in
-        let e2 : (let r : Read WrittenName = Ok (name_at l, ws) in r ≡ Ok (name, back)) = rw hit at e in
-        record {
-          token = l;
-          split = ap (λ r. l ∷ r) (rest_of (name_at l) name ws back e2);
-          is = record { word = is_word l.kind parts.0; free = is_free (is_among quoted l.bytes) parts.1 };
-          at = sym (value_of (name_at l) name ws back e2);
-        }
-      | inr miss ↦ refusal (stuck_fault (l ∷ ws)) name back (rw miss at e) ]
+          let parts = and_parts (is_word_kind l.kind) (not (is_among quoted l.bytes)) hit in
+          let e2 : (let r : Read WrittenName = Ok (name_at l, ws) in r ≡ Ok (name, back)) = rw hit at e in
+          record {
+            token = l;
+            split = ap (λ r. l ∷ r) (rest_of (name_at l) name ws back e2);
+            is = record { word = is_word l.kind parts.0; free = is_free (is_among quoted l.bytes) parts.1 };
+            at = sym (value_of (name_at l) name ws back e2);
+          }
+      | inr miss ↦ refusal (stuck_fault (l ∷ ws)) name back (rw miss at e)
+    ]
 
 -- types within the limit
 abbrev pub AreSmall : List WrittenType → Type 0

@@ -1,21 +1,21 @@
 -- What is read as a member that an instruction names is that of the grammar.
-use Rattle.std.proofs.Common.{◌≡◌, ℕ, Bool, true, false, List, [], ◌∷◌, ◌++◌, Option, Some, None, Ok, Err, refl, sym, ap, subst, ◌∙◌, codes, inl, inr, option_to_list, bytes_eq, ◌||◌}
+use Rattle.std.proofs.Common.{◌≡◌, false, List, [], ◌∷◌, ◌++◌, Ok, refl, sym, ap, subst, ◌∙◌, codes, inl, inr, option_to_list, bytes_eq}
 use Rattle.std.proofs.lemmas.Bool.{cases_Bool, or_from}
 use Rattle.il_model.specs.declared.written.WrittenName.{WrittenName}
 use Rattle.il_model.specs.declared.written.WrittenMethodRef.{WrittenMethodRef}
 use Rattle.il_model.specs.declared.written.WrittenFieldRef.{WrittenFieldRef}
 use Rattle.il_model.specs.declared.written.WrittenType.{WrittenType}
-use Rattle.il_model.specs.Lexemes.{Lexeme, Is, IsName, is_among, name_at}
+use Rattle.il_model.specs.Lexemes.{Lexeme}
 use Rattle.il_model.specs.Bounds.{types_of_method_ref}
 use Rattle.il_model.specs.Types.{AreParams}
 use Rattle.il_model.specs.Members.{unless_read, IsMethodRef, method_ref, IsFieldRef, field_ref}
 use Rattle.il_parse.specs.declared.fault.ParseCause.TheVariants as cause
-use Rattle.il_parse.specs.Reading.{Read, fault_at, expect, read_name, read_name_but, sees}
+use Rattle.il_parse.specs.Reading.{fault_at, read_name, read_name_but, sees}
 use Rattle.il_parse.specs.Types.{read_type, read_result, read_params, read_arguments, read_enclosed}
 use Rattle.il_parse.specs.Members.{read_method_name, read_method_ref, read_field_ref}
-use Rattle.il_parse.proofs.Steps.{Took, Sound, refusal, value_of, rest_of, stepped, stepped_over, joined, led}
+use Rattle.il_parse.proofs.Steps.{Sound, refusal, value_of, rest_of, stepped, stepped_over, joined, led}
 use Rattle.il_parse.proofs.TypesSound.{no_quoted}
-use Rattle.il_parse.proofs.ListsSound.{type_sound, NameRead, name_sound, IsBoth, AreSmall, small-append}
+use Rattle.il_parse.proofs.ListsSound.{type_sound, NameRead, name_sound, IsBoth, small-append}
 use Rattle.il_parse.proofs.PartsSound.{optional, result_sound, arguments_sound, enclosed_sound, enclosed_joined, params_sound}
 use Rattle.il_model.specs.Bounds.{types_of_params}
 
@@ -35,7 +35,8 @@ unfolding read_method_name read_name
 method_name_sound ws name back e =
     elim (cases_Bool (sees (codes ".cctor") ws)) [
       | inl hit ↦ refusal (fault_at ws cause.Unsupported) name back (rw hit at e)
-      | inr miss ↦ method_name_of ws name back miss (name_sound [] ws name back (rw miss at e)) ]
+      | inr miss ↦ method_name_of ws name back miss (name_sound [] ws name back (rw miss at e))
+    ]
 
 pub method_ref_sound : Sound read_method_ref (IsBoth IsMethodRef types_of_method_ref)
 unfolding read_method_ref

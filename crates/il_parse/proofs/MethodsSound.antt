@@ -1,42 +1,36 @@
 -- What is read as fields and methods is that of the grammar, within the limits, where calls are.
-use Rattle.std.proofs.Common.{◌≡◌, ℕ, zero, suc, ◌+◌, ◌-◌, ◌==◌, ◌<◌, ◌≤◌, Bool, true, false, not, ◌&&◌, if◌then◌else◌, is_none, List, [], ◌∷◌, ◌++◌, drop, length, map, flat_map, option_to_list, Option, Some, None, Ok, Err, refl, sym, ap, subst, ◌∙◌, codes, append_assoc, append-nil, bytes_eq, inl, inr, arith, find, Contains, option_map, All, slice_index_or}
+use Rattle.std.proofs.Common.{◌≡◌, ℕ, ◌≤◌, Bool, true, ◌&&◌, is_none, List, [], ◌∷◌, ◌++◌, drop, length, flat_map, option_to_list, Option, Some, None, Ok, refl, sym, ap, subst, ◌∙◌, codes, append_assoc, bytes_eq, inl, inr, arith, Contains}
 use Rattle.std.specs.List.{AllByRecursion}
-use Rattle.std.proofs.lemmas.Bool.{true≢false, cases_Bool, and_parts, eqb-false}
+use Rattle.std.proofs.lemmas.Bool.{true≢false, cases_Bool, and_parts}
 use Rattle.std.proofs.lemmas.Slice.Eq.{bytes_eq-Decides}
-use Rattle.il_model.specs.declared.class.ClassKind.{ClassKind}
-use Rattle.il_model.specs.declared.class.ClassKind.TheVariants as kind
 use Rattle.il_model.specs.declared.method.Shape.{Shape}
 use Rattle.il_model.specs.declared.method.Shape.TheVariants as shape
 use Rattle.il_model.specs.declared.written.WrittenName.{WrittenName}
 use Rattle.il_model.specs.declared.written.WrittenType.{WrittenType}
-use Rattle.il_model.specs.declared.written.WrittenParam.{WrittenParam}
 use Rattle.il_model.specs.declared.written.WrittenVar.{WrittenVar}
 use Rattle.il_model.specs.declared.written.WrittenBody.{WrittenBody}
 use Rattle.il_model.specs.declared.written.WrittenField.{WrittenField}
 use Rattle.il_model.specs.declared.written.WrittenMethod.{WrittenMethod}
-use Rattle.il_model.specs.declared.written.WrittenMember.{WrittenMember}
-use Rattle.il_model.specs.declared.written.WrittenMember.TheVariants as member
-use Rattle.il_model.specs.Lexemes.{Lexeme, Is, IsName, name_at, Many, none, more}
-use Rattle.il_model.specs.Words.{kind_words, shape_words}
-use Rattle.il_model.specs.Bounds.{instrs_of, types_of_params, types_of_vars, types_of_body, types_of_method, fields_of, methods_of}
+use Rattle.il_model.specs.Lexemes.{Lexeme, Is, name_at}
+use Rattle.il_model.specs.Words.{shape_words}
+use Rattle.il_model.specs.Bounds.{instrs_of, types_of_params, types_of_vars, types_of_body, types_of_method}
 use Rattle.il_model.specs.Types.{AreParams, no_vars}
 use Rattle.il_model.specs.Members.{unless_read}
-use Rattle.il_model.specs.Classes.{IsField, field, IsShape, instance, static, virtual, newslot, abstract, MayHaveVars, IsBodyOrNone, bodiless, braced, IsMethod, method, IsMember, field_member, method_member}
+use Rattle.il_model.specs.Classes.{IsField, field, IsShape, instance, static, virtual, newslot, abstract, MayHaveVars, IsBodyOrNone, bodiless, braced, IsMethod, method}
 use Rattle.il_model.specs.LookUp.{has_entry, MayBegin}
 use Rattle.il_parse.specs.declared.fault.ParseCause.TheVariants as cause
-use Rattle.il_parse.specs.Reading.{Read, Reader, fault_at, stuck_fault, sees, expect, expect_at, read_name, read_name_but}
+use Rattle.il_parse.specs.Reading.{Read, fault_at, stuck_fault, sees, expect_at, read_name, read_name_but}
 use Rattle.il_parse.specs.Types.{read_type, read_result, read_params, read_enclosed}
 use Rattle.il_parse.specs.Members.{read_method_name}
 use Rattle.il_parse.specs.Bodies.{read_body}
-use Rattle.il_parse.specs.Classes.{read_field, read_shape, most_method_vars, read_no_vars, read_method_vars, read_body_or_none, is_fixed, is_empty, may_begin_in, read_method, Members, members_from, read_members}
-use Rattle.il_parse.proofs.Finding.{none_is, some_is}
-use Rattle.il_parse.proofs.Steps.{AreSpelled, spelled_rest, Took, Sound, refusal, value_of, rest_of, stepped, stepped_over, seen, Seen, there, absent, joined, led}
+use Rattle.il_parse.specs.Classes.{read_field, read_shape, read_no_vars, read_method_vars, read_body_or_none, is_fixed, is_empty, may_begin_in, read_method}
+use Rattle.il_parse.proofs.Steps.{AreSpelled, spelled_rest, Took, Sound, refusal, value_of, rest_of, stepped, stepped_over, seen, there, absent, joined, led}
 use Rattle.il_parse.proofs.TypesSound.{FreeOf, no_quoted}
-use Rattle.il_parse.proofs.ListsSound.{type_sound, NameRead, name_sound, IsBoth, AreSmall, small-append}
-use Rattle.il_parse.proofs.PartsSound.{optional, free_more, result_sound, IsVars, vars_sound, params_sound, enclosed_sound, enclosed_joined, Enclosed}
+use Rattle.il_parse.proofs.ListsSound.{type_sound, name_sound, IsBoth, AreSmall, small-append}
+use Rattle.il_parse.proofs.PartsSound.{optional, free_more, result_sound, IsVars, vars_sound, params_sound, enclosed_sound, enclosed_joined}
 use Rattle.il_parse.proofs.MembersSound.{method_name_sound}
 use Rattle.il_parse.proofs.InstrsSound.{CallsAreSound}
-use Rattle.il_parse.proofs.BodiesSound.{BodyRead, body_sound}
+use Rattle.il_parse.proofs.BodiesSound.{body_sound}
 
 abbrev pub type_of_field : WrittenField → List WrittenType
 type_of_field f = f.kind ∷ []
@@ -90,30 +84,34 @@ shape_sound ws s back e =
         | there l rest split same hit behind ↦ one_word (codes "virtual") shape.Virtual ws l rest s back split (virtual l same) (rw (no_static, hit) at e)
         | absent no_virtual stays2 ↦ elim (seen (codes "newslot") ws) [
           | there l rest split same hit behind ↦
-            stepped_over (codes "virtual") (drop 1 ws) _ s back (rw (no_static, no_virtual, hit) at e) (λ m mid s1 h1 f1.
-            record {
-              front = l ∷ m ∷ [];
-              quoted = [];
-              split = split ∙ ap (λ z. l ∷ z) (sym (ap (drop 1) split) ∙ s1 ∙ ap (λ z. m ∷ z) (rest_of shape.NewSlot s mid back f1));
-              is = subst (λ u. IsShape (l ∷ m ∷ []) u []) (value_of shape.NewSlot s mid back f1) (newslot l m same h1);
-              free = no_quoted back;
-            })
+              stepped_over (codes "virtual") (drop 1 ws) _ s back (rw (no_static, no_virtual, hit) at e) (λ m mid s1 h1 f1.
+              record {
+                front = l ∷ m ∷ [];
+                quoted = [];
+                split = split ∙ ap (λ z. l ∷ z) (sym (ap (drop 1) split) ∙ s1 ∙ ap (λ z. m ∷ z) (rest_of shape.NewSlot s mid back f1));
+                is = subst (λ u. IsShape (l ∷ m ∷ []) u []) (value_of shape.NewSlot s mid back f1) (newslot l m same h1);
+                free = no_quoted back;
+              })
           | absent no_newslot stays3 ↦ elim (seen (codes "abstract") ws) [
             | there l rest split same hit behind ↦
-              one_word (codes "abstract") shape.Abstract ws l rest s back split (abstract l same) (rw (no_static, no_virtual, no_newslot, hit) at e)
+                one_word (codes "abstract") shape.Abstract ws l rest s back split (abstract l same) (rw (no_static, no_virtual, no_newslot, hit) at e)
             | absent no_abstract stays4 ↦
-              let e2 : (let r : Read Shape = Ok (shape.Instance, ws) in r ≡ Ok (s, back)) = rw (no_static, no_virtual, no_newslot, no_abstract) at e in
-              record {
-                front = [];
-                quoted = shape_words;
-                split = rest_of shape.Instance s ws back e2;
-                is = subst (λ u. IsShape [] u shape_words) (value_of shape.Instance s ws back e2) instance;
-                free = subst (FreeOf shape_words) (rest_of shape.Instance s ws back e2)
-                    (free_more (codes "static") (codes "virtual" ∷ codes "newslot" ∷ codes "abstract" ∷ []) ws no_static
-                    (free_more (codes "virtual") (codes "newslot" ∷ codes "abstract" ∷ []) ws no_virtual
-                    (free_more (codes "newslot") (codes "abstract" ∷ []) ws no_newslot
-                    (free_more (codes "abstract") [] ws no_abstract (no_quoted ws)))));
-              } ] ] ] ]
+                let e2 : (let r : Read Shape = Ok (shape.Instance, ws) in r ≡ Ok (s, back)) = rw (no_static, no_virtual, no_newslot, no_abstract) at e in
+                record {
+                  front = [];
+                  quoted = shape_words;
+                  split = rest_of shape.Instance s ws back e2;
+                  is = subst (λ u. IsShape [] u shape_words) (value_of shape.Instance s ws back e2) instance;
+                  free = subst (FreeOf shape_words) (rest_of shape.Instance s ws back e2)
+                      (free_more (codes "static") (codes "virtual" ∷ codes "newslot" ∷ codes "abstract" ∷ []) ws no_static
+                      (free_more (codes "virtual") (codes "newslot" ∷ codes "abstract" ∷ []) ws no_virtual
+                      (free_more (codes "newslot") (codes "abstract" ∷ []) ws no_newslot
+                      (free_more (codes "abstract") [] ws no_abstract (no_quoted ws)))));
+                }
+          ]
+        ]
+      ]
+    ]
 
 -- type variables that a method of this shape may have
 pub record MethodVars (s : Shape) (ws : List Lexeme) (vs : List WrittenVar) : Type 0 where
@@ -125,13 +123,14 @@ no_vars_sound s may ws vs back e =
     elim (cases_Bool (sees (codes "<") ws)) [
       | inl hit ↦ refusal (fault_at ws cause.Unsupported) vs back (rw hit at e)
       | inr miss ↦
-        let e2 : (let r : Read (List WrittenVar) = Ok ([], ws) in r ≡ Ok (vs, back)) = rw miss at e in
-        record {
-          front = [];
-          split = rest_of [] vs ws back e2;
-          holds = subst (MethodVars s []) (value_of [] vs ws back e2)
-              (record { are = record { is = no_vars; small = tt; few = omega arith }; may = may [] refl });
-        } ]
+          let e2 : (let r : Read (List WrittenVar) = Ok ([], ws) in r ≡ Ok (vs, back)) = rw miss at e in
+          record {
+            front = [];
+            split = rest_of [] vs ws back e2;
+            holds = subst (MethodVars s []) (value_of [] vs ws back e2)
+                (record { are = record { is = no_vars; small = tt; few = omega arith }; may = may [] refl });
+          }
+    ]
 
 some_vars_sound : (s : Shape) → ((vs : List WrittenVar) → MayHaveVars s vs) → (ws : List Lexeme) (vs : List WrittenVar) (back : List Lexeme) →
     Took (IsVars 2) ws vs back → Took (MethodVars s) ws vs back
@@ -165,30 +164,31 @@ unfolding read_body_or_none
 body_or_none_sound call_sound may_begin ws o back spelled e =
     elim (seen (codes ";") ws) [
       | there l rest split same hit behind ↦
-        let e2 : (let r : Read (Option WrittenBody) = Ok (None, rest) in r ≡ Ok (o, back)) = rw (hit, behind) at e in
-        record {
-          front = l ∷ [];
-          split = split ∙ ap (λ z. l ∷ z) (rest_of None o rest back e2);
-          holds = subst (BodyOrNone may_begin (l ∷ [])) (value_of None o rest back e2)
-              (record { is = bodiless l same; small = tt; few = tt; begins = λ at c. no_item at c });
-        }
+          let e2 : (let r : Read (Option WrittenBody) = Ok (None, rest) in r ≡ Ok (o, back)) = rw (hit, behind) at e in
+          record {
+            front = l ∷ [];
+            split = split ∙ ap (λ z. l ∷ z) (rest_of None o rest back e2);
+            holds = subst (BodyOrNone may_begin (l ∷ [])) (value_of None o rest back e2)
+                (record { is = bodiless l same; small = tt; few = tt; begins = λ at c. no_item at c });
+          }
       | absent miss stays ↦
-        stepped_over (codes "{") ws _ o back (rw (miss, stays) at e) (λ left ws1 s0 h0 f0.
-        stepped (read_body may_begin ws1) _ o back f0 (λ b ws2 e1 f1.
-        stepped_over (codes "}") ws2 _ o back f1 (λ right ws3 s2 h2 f2.
-        let t = body_sound call_sound may_begin ws1 b ws2 (spelled_rest ws (left ∷ []) ws1 s0 spelled) e1 in
-        let whole : List Lexeme = left ∷ t.front ++ right ∷ [] in
-        record {
-          front = whole;
-          split = led ws left ws1 (t.front ++ right ∷ []) back s0
-              (joined ws1 t.front ws2 (right ∷ []) back t.split (s2 ∙ ap (λ z. right ∷ z) (rest_of (Some b) o ws3 back f2)));
-          holds = subst (BodyOrNone may_begin whole) (value_of (Some b) o ws3 back f2) (record {
-            is = braced whole t.front left right b refl h0 t.holds.is h2;
-            small = small-append (types_of_body b) [] t.holds.small tt;
-            few = (t.holds.few, tt);
-            begins = entry_begins may_begin b.entry t.holds.begins;
-          });
-        }))) ]
+          stepped_over (codes "{") ws _ o back (rw (miss, stays) at e) (λ left ws1 s0 h0 f0.
+          stepped (read_body may_begin ws1) _ o back f0 (λ b ws2 e1 f1.
+          stepped_over (codes "}") ws2 _ o back f1 (λ right ws3 s2 h2 f2.
+          let t = body_sound call_sound may_begin ws1 b ws2 (spelled_rest ws (left ∷ []) ws1 s0 spelled) e1 in
+          let whole : List Lexeme = left ∷ t.front ++ right ∷ [] in
+          record {
+            front = whole;
+            split = led ws left ws1 (t.front ++ right ∷ []) back s0
+                (joined ws1 t.front ws2 (right ∷ []) back t.split (s2 ∙ ap (λ z. right ∷ z) (rest_of (Some b) o ws3 back f2)));
+            holds = subst (BodyOrNone may_begin whole) (value_of (Some b) o ws3 back f2) (record {
+              is = braced whole t.front left right b refl h0 t.holds.is h2;
+              small = small-append (types_of_body b) [] t.holds.small tt;
+              few = (t.holds.few, tt);
+              begins = entry_begins may_begin b.entry t.holds.begins;
+            });
+          })))
+    ]
 
 -- a written method within its limits, in a class without type variables or with some
 pub record MethodFine (plain_class : Bool) (m : WrittenMethod) : Type 0 where
@@ -237,14 +237,15 @@ place_read m [] at mid e = refusal (stuck_fault []) at mid e
 place_read m (l ∷ ws) at mid e =
     elim (cases_Bool (bytes_eq m l.bytes)) [
       | inl hit ↦
-        let e2 : (let r : Read ℕ = Ok (l.at, ws) in r ≡ Ok (at, mid)) = rw hit at e in
-        record {
-          token = l;
-          split = ap (λ z. l ∷ z) (rest_of l.at at ws mid e2);
-          same = sym ((bytes_eq-Decides m l.bytes).0 hit);
-          place = sym (value_of l.at at ws mid e2);
-        }
-      | inr miss ↦ refusal (stuck_fault (l ∷ ws)) at mid (rw miss at e) ]
+          let e2 : (let r : Read ℕ = Ok (l.at, ws) in r ≡ Ok (at, mid)) = rw hit at e in
+          record {
+            token = l;
+            split = ap (λ z. l ∷ z) (rest_of l.at at ws mid e2);
+            same = sym ((bytes_eq-Decides m l.bytes).0 hit);
+            place = sym (value_of l.at at ws mid e2);
+          }
+      | inr miss ↦ refusal (stuck_fault (l ∷ ws)) at mid (rw miss at e)
+    ]
 
 pub method_sound : CallsAreSound → (plain_class : Bool) → (ws : List Lexeme) (m : WrittenMethod) (back : List Lexeme) → AreSpelled ws →
     read_method plain_class ws ≡ Ok (m, back) → Took (MethodRead plain_class) ws m back
@@ -268,13 +269,13 @@ method_sound call_sound plain_class ws m back spelled e =
     let t3 = joined ws (p.token ∷ h.front ++ r.front) ws3 (n.token ∷ v.front) ws5 t2 (led ws3 n.token ws4 v.front ws5 n.split v.split) in
     let t4 = enclosed_joined ws (p.token ∷ h.front ++ r.front ++ n.token ∷ v.front) ws5 params ws6 t3 q in
     let t = body_or_none_sound call_sound (may_begin_in plain_class s result vars params) ws6 b ws7
-        (spelled_rest ws (p.token ∷ h.front ++ r.front ++ n.token ∷ v.front ++ q.left ∷ q.inner ++ q.right ∷ []) ws6 t4 spelled) e6 in
+    (spelled_rest ws (p.token ∷ h.front ++ r.front ++ n.token ∷ v.front ++ q.left ∷ q.inner ++ q.right ∷ []) ws6 t4 spelled) e6 in
     let made : WrittenMethod = record { at = at; shape = s; result = result; name = name; vars = vars; params = params; body = b } in
     let named : WrittenMethod = record { at = p.token.at; shape = s; result = result; name = name_at n.token; vars = vars; params = params; body = b } in
     let whole : List Lexeme = p.token ∷ h.front ++ r.front ++ n.token ∷ v.front ++ q.left ∷ q.inner ++ q.right ∷ t.front in
     let same_name : named ≡ made =
-        ap (λ (x : ℕ). record { at = x; shape = s; result = result; name = name_at n.token; vars = vars; params = params; body = b }) (sym p.place)
-        ∙ ap (λ (x : WrittenName). record { at = at; shape = s; result = result; name = x; vars = vars; params = params; body = b }) (sym n.at) in
+    ap (λ (x : ℕ). record { at = x; shape = s; result = result; name = name_at n.token; vars = vars; params = params; body = b }) (sym p.place)
+    ∙ ap (λ (x : WrittenName). record { at = at; shape = s; result = result; name = x; vars = vars; params = params; body = b }) (sym n.at) in
     let before : List Lexeme = p.token ∷ h.front ++ r.front ++ n.token ∷ v.front ++ q.left ∷ q.inner in
     let t5 : ws ≡ before ++ (q.right ∷ ws6) = t4 ∙ append_assoc before (q.right ∷ []) ws6 in
     let t6 = joined ws before (q.right ∷ ws6) (q.right ∷ t.front) ws7 t5 (ap (λ z. q.right ∷ z) t.split) in
@@ -287,7 +288,7 @@ method_sound call_sound plain_class ws m back spelled e =
         fine = record {
           small = small-append (option_to_list result ++ types_of_vars vars ++ types_of_params params) (flat_map types_of_body (option_to_list b))
               (small-append (option_to_list result ++ types_of_vars vars) (types_of_params params)
-                  (small-append (option_to_list result) (types_of_vars vars) r.holds.small v.holds.are.small) q.holds.small) t.holds.small;
+              (small-append (option_to_list result) (types_of_vars vars) r.holds.small v.holds.are.small) q.holds.small) t.holds.small;
           vars = v.holds.are.few;
           instrs = t.holds.few;
           begins = λ x c. may_begin_means plain_class named (t.holds.begins x c);

@@ -1,30 +1,25 @@
 -- What is read as an operand is that of the grammar, within the limits.
-use Rattle.std.proofs.Common.{◌≡◌, ℕ, ℤ, Bool, true, false, List, [], ◌∷◌, ◌++◌, Option, Some, None, Ok, Err, refl, sym, ap, subst, ◌∙◌, codes, append_assoc}
+use Rattle.std.proofs.Common.{◌≡◌, ℕ, false, List, [], ◌∷◌, ◌++◌, Option, Some, None, Ok, refl, sym, ap, subst, ◌∙◌, codes}
 use Rattle.std.proofs.lemmas.Bool.{true≢false}
 use Rattle.il_text.specs.declared.token.TokenKind.{TokenKind}
 use Rattle.il_text.specs.declared.token.TokenKind.TheVariants as token
-use Rattle.il_model.specs.declared.written.WrittenName.{WrittenName}
-use Rattle.il_model.specs.declared.written.WrittenType.{WrittenType}
-use Rattle.il_model.specs.declared.written.WrittenMethodRef.{WrittenMethodRef}
-use Rattle.il_model.specs.declared.written.WrittenFieldRef.{WrittenFieldRef}
 use Rattle.il_model.specs.declared.written.WrittenOperand.{WrittenOperand}
 use Rattle.il_model.specs.declared.written.WrittenOperand.TheVariants as operand
-use Rattle.il_model.specs.Lexemes.{Lexeme, Is, IsName, name_at, Separated}
+use Rattle.il_model.specs.Lexemes.{Lexeme, Separated}
 use Rattle.il_model.specs.Literals.{int32_value, int64_value, place_value, text_value}
-use Rattle.il_model.specs.Bounds.{types_of_operand, types_of_method_ref}
+use Rattle.il_model.specs.Bounds.{types_of_operand}
 use Rattle.il_model.specs.Forms.{OperandKind, no_operand, int32_literal, int64_literal, text_literal, place, label, labels, type_operand, called_method, method_operand, field_operand, constrained_method}
 use Rattle.il_model.specs.Instructions.{IsLabel, label_name, IsOperand, nothing, int32_number, int64_number, text, place_number, target, targets, type, method, field, constrained}
-use Rattle.il_model.specs.Members.{IsMethodRef, IsFieldRef}
-use Rattle.il_parse.specs.Reading.{Read, Reader, stuck_fault, expect, read_name, read_name_but, read_separated}
+use Rattle.il_parse.specs.Reading.{Read, stuck_fault, read_name, read_separated}
 use Rattle.il_parse.specs.Types.{read_type, read_enclosed}
 use Rattle.il_parse.specs.Members.{read_method_ref, read_field_ref}
 use Rattle.il_parse.specs.Operands.{value_or_stuck, number_value, read_number, literal_value, read_text, read_constrained, read_operand}
 use Rattle.il_parse.proofs.Finding.{none_is, some_is}
 use Rattle.il_parse.proofs.Steps.{Took, Sound, refusal, value_of, rest_of, stepped, stepped_over, joined, led}
 use Rattle.il_parse.proofs.TypesSound.{no_quoted}
-use Rattle.il_parse.proofs.ListsSound.{type_sound, NameRead, name_sound, IsBoth, AreSmall, separated_sound}
-use Rattle.il_parse.proofs.PartsSound.{enclosed_sound, Enclosed}
-use Rattle.il_parse.proofs.MembersSound.{method_ref_sound, field_ref_sound, types_of_field_ref}
+use Rattle.il_parse.proofs.ListsSound.{type_sound, name_sound, IsBoth, AreSmall, separated_sound}
+use Rattle.il_parse.proofs.PartsSound.{enclosed_sound}
+use Rattle.il_parse.proofs.MembersSound.{method_ref_sound, field_ref_sound}
 use Rattle.il_parse.proofs.WordsSound.{is_called}
 
 -- one lexeme that is read as a value
@@ -136,7 +131,7 @@ operand_sound text_literal free ws o back e =
     let v = text_read ws bytes mid e0 in
     let i = is_literal v.token.kind v.token.bytes bytes v.is in
     one_part text_literal operand.Text bytes ws mid (v.token ∷ []) o back v.split
-        (subst (λ b. IsOperand text_literal (v.token ∷ []) (operand.Text b)) i.is (text v.token i.kind)) tt f0)
+    (subst (λ b. IsOperand text_literal (v.token ∷ []) (operand.Text b)) i.is (text v.token i.kind)) tt f0)
 operand_sound place free ws o back e =
     stepped (read_number place_value ws) _ o back e (λ n mid e0 f0.
     number_sound place place_value operand.Place place_number (λ _. tt) ws o back n mid e0 f0)
@@ -147,7 +142,7 @@ operand_sound label free ws o back e =
 operand_sound labels free ws o back e =
     stepped (read_enclosed (read_separated read_name (codes ",")) ws) _ o back e (λ to mid e0 f0.
     let n = enclosed_sound (read_separated read_name (codes ",")) (Separated (codes ",") IsLabel)
-        (separated_sound read_name IsLabel label_sound (codes ",")) ws to mid e0 in
+    (separated_sound read_name IsLabel label_sound (codes ",")) ws to mid e0 in
     let whole : List Lexeme = n.left ∷ n.inner ++ n.right ∷ [] in
     one_part labels operand.Labels to ws mid whole o back n.split (targets whole n.inner n.left n.right to refl n.opens n.holds n.closes) tt f0)
 operand_sound type_operand free ws o back e =

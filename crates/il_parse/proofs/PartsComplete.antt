@@ -1,23 +1,19 @@
 -- Parameters, arguments, type variables and members of the grammar are read as themselves.
-use Rattle.std.proofs.Common.{◌≡◌, ℕ, zero, suc, ◌+◌, ◌<◌, ◌≤◌, Bool, true, false, if◌then◌else◌, List, [], ◌∷◌, ◌++◌, length, map, flat_map, option_to_list, Option, Some, None, Ok, Err, refl, sym, ap, subst, ◌∙◌, codes, append_assoc, bytes_eq, inl, inr, arith}
+use Rattle.std.proofs.Common.{◌≡◌, ℕ, ◌≤◌, Bool, true, false, List, [], ◌∷◌, ◌++◌, length, option_to_list, Option, Ok, refl, sym, ap, subst, ◌∙◌, codes, append_assoc, bytes_eq, arith}
 use Rattle.std.specs.List.{AllByRecursion}
-use Rattle.std.proofs.lemmas.Bool.{true≢false, cases_Bool, or_parts, or_left, or_right}
+use Rattle.std.proofs.lemmas.Bool.{true≢false, or_parts, or_left, or_right}
 use Rattle.std.proofs.lemmas.List.{length-append}
-use Rattle.std.proofs.lemmas.Slice.Eq.{bytes_eq-Decides}
-use Rattle.il_text.specs.declared.token.TokenKind.TheVariants as token
 use Rattle.il_model.specs.declared.written.WrittenType.{WrittenType}
-use Rattle.il_model.specs.declared.written.WrittenName.{WrittenName}
 use Rattle.il_model.specs.declared.written.WrittenParam.{WrittenParam}
-use Rattle.il_model.specs.declared.written.WrittenVar.{WrittenVar}
 use Rattle.il_model.specs.declared.written.WrittenMethodRef.{WrittenMethodRef}
 use Rattle.il_model.specs.declared.written.WrittenFieldRef.{WrittenFieldRef}
 use Rattle.il_model.specs.Lexemes.{Lexeme, Is, IsName, is_among, name_at, Separated, last, next, IsOptional, absent as not_written, present}
 use Rattle.il_text.specs.Spelling.{is_variable}
 use Rattle.il_model.specs.Words.{type_words}
 use Rattle.il_model.specs.Bounds.{types_of_params, types_of_method_ref}
-use Rattle.il_model.specs.Types.{IsType, IsResult, void, value, IsParam, by_value, pointer, AreParams, no_params, params, AreArguments, no_arguments, arguments}
+use Rattle.il_model.specs.Types.{IsResult, void, value, IsParam, by_value, pointer, AreParams, no_params, params, AreArguments, no_arguments, arguments}
 use Rattle.il_model.specs.Members.{unless_read, IsMethodRef, method_ref, IsFieldRef, field_ref}
-use Rattle.il_parse.specs.Reading.{Read, Reader, sees, after, expect, eat, read_name, read_name_but, read_separated}
+use Rattle.il_parse.specs.Reading.{Reader, sees, after, expect, read_name, read_name_but, read_separated}
 use Rattle.il_parse.specs.Types.{read_type, read_types, read_result, read_param, read_params, read_enclosed, read_arguments}
 use Rattle.il_parse.specs.Members.{read_method_name, read_method_ref, read_field_ref}
 use Rattle.il_parse.proofs.Steps.{AreSpelled, spelled-append, by_step}
@@ -25,7 +21,7 @@ use Rattle.il_parse.proofs.ListsSound.{AreSmall}
 use Rattle.il_parse.proofs.PartsSound.{type_of_param, flat-singles}
 use Rattle.il_parse.proofs.MembersSound.{types_of_field_ref}
 use Rattle.il_parse.proofs.TypesComplete.{sees-is, sees-other, after-is, after-other, expect-is}
-use Rattle.il_parse.proofs.ListsComplete.{Ends, ends_at, ends_type, ends_name, type_complete, type_first, type_unquoted, type_some, name_first, name_complete, small-split, Complete, separated_complete, separated_some, types_complete}
+use Rattle.il_parse.proofs.ListsComplete.{Ends, ends_at, ends_type, type_complete, type_first, type_unquoted, type_some, name_complete, small-split, Complete, separated_complete, types_complete}
 
 -- what stands behind a result: nothing that goes on with a type
 pub result_complete : (quoted : List (List ℕ)) (front : List Lexeme) (r : Option WrittenType) (back : List Lexeme) → IsResult quoted front r →
@@ -35,7 +31,7 @@ result_complete quoted front r back (void l same) small s ends = rw (sees-is (co
 result_complete quoted front r back (value ws t is) small s ends =
     let miss = type_unquoted (codes "void") refl (refl, (refl, (refl, (refl, (refl, tt))))) (codes "void" ∷ quoted) refl ws t back is s in
     rw (miss, after-other (codes "void") (ws ++ back) miss)
-        (by_step (read_type (ws ++ back)) _ _ t back (type_complete (codes "void" ∷ quoted) ws t back is small.0 s ends) refl)
+    (by_step (read_type (ws ++ back)) _ _ t back (type_complete (codes "void" ∷ quoted) ws t back is small.0 s ends) refl)
 
 -- what may stand behind a parameter
 pub record EndsParam (back : List Lexeme) : Type 0 where
@@ -50,13 +46,13 @@ pub param_complete : Complete read_param IsParam type_of_param EndsParam
 unfolding read_param
 param_complete front p back (by_value ws t is) small s f =
     by_step (read_type (ws ++ back)) _ _ t back (type_complete [] ws t back is small.0 s f.ends)
-        (rw (f.no_pointer, after-other (codes "&") back f.no_pointer) refl)
+    (rw (f.no_pointer, after-other (codes "&") back f.no_pointer) refl)
 param_complete front p back (pointer ws first l t split is same) small s f =
     let parts = spelled-append first (l ∷ []) (subst AreSpelled split s) in
     ap read_param (ap (λ z. z ++ back) split ∙ append_assoc first (l ∷ []) back)
     ∙ by_step (read_type (first ++ l ∷ back)) _ _ t (l ∷ back)
-        (type_complete [] first t (l ∷ back) is small.0 parts.0 (ends_at (codes "&") l back same refl refl))
-        (rw (sees-is (codes "&") l back same, after-is (codes "&") l back same) refl)
+    (type_complete [] first t (l ∷ back) is small.0 parts.0 (ends_at (codes "&") l back same refl refl))
+    (rw (sees-is (codes "&") l back same, after-is (codes "&") l back same) refl)
 
 param_some : (ws : List Lexeme) (p : WrittenParam) → IsParam ws p → 1 ≤ length ws
 param_some ws p (by_value same t is) = type_some [] ws t is
@@ -79,7 +75,7 @@ pub param_list_complete : (front : List Lexeme) (ps : List WrittenParam) (r : Le
     AreSpelled front → Is (codes ")") r → read_separated read_param (codes ",") (front ++ r ∷ back) ≡ Ok (ps, r ∷ back)
 param_list_complete front ps r back sep small s same =
     separated_complete read_param IsParam type_of_param EndsParam param_complete param_some (codes ",") (λ l ws h. param_at (codes ",") l ws h refl refl refl)
-        front ps (r ∷ back) sep (subst AreSmall (sym (flat-singles ps)) small) s (param_at (codes ")") r back same refl refl refl) (sees-other (codes ",") (codes ")") r back same refl)
+    front ps (r ∷ back) sep (subst AreSmall (sym (flat-singles ps)) small) s (param_at (codes ")") r back same refl refl refl) (sees-other (codes ",") (codes ")") r back same refl)
 
 pub params_complete : (front : List Lexeme) (ps : List WrittenParam) (r : Lexeme) (back : List Lexeme) → AreParams front ps → AreSmall (types_of_params ps) →
     AreSpelled front → Is (codes ")") r → read_params (front ++ r ∷ back) ≡ Ok (ps, r ∷ back)
@@ -106,10 +102,10 @@ arguments_complete front ts back (arguments ws inner left right us split opens a
     let whole : ws ++ back ≡ left ∷ (inner ++ right ∷ back) = ap (λ z. z ++ back) split ∙ ap (λ z. left ∷ z) (append_assoc inner (right ∷ []) back) in
     ap read_arguments whole
     ∙ rw (sees-is (codes "<") left (inner ++ right ∷ back) opens, after-is (codes "<") left (inner ++ right ∷ back) opens)
-        (by_step (read_types (codes ",") (inner ++ right ∷ back)) _ _ ts (right ∷ back)
-            (types_complete (codes ",") refl refl inner ts (right ∷ back) are small parts.0 (ends_at (codes ">") right back closes refl refl)
-                (sees-other (codes ",") (codes ">") right back closes refl))
-        (by_step (expect (codes ">") (right ∷ back)) _ _ tt back (expect-is (codes ">") right back closes) refl))
+    (by_step (read_types (codes ",") (inner ++ right ∷ back)) _ _ ts (right ∷ back)
+    (types_complete (codes ",") refl refl inner ts (right ∷ back) are small parts.0 (ends_at (codes ">") right back closes refl refl)
+    (sees-other (codes ",") (codes ">") right back closes refl))
+    (by_step (expect (codes ">") (right ∷ back)) _ _ tt back (expect-is (codes ">") right back closes) refl))
 
 cctor_apart : (l : Lexeme) (back : List Lexeme) → IsName (codes ".cctor" ∷ []) l → sees (codes ".cctor") (l ∷ back) ≡ false
 unfolding sees
@@ -158,16 +154,16 @@ method_ref_complete front m back (method_ref ws before result class args inside 
     let w1 : List Lexeme = result ++ w2 in
     let whole : ws ++ back ≡ before ++ w1 = ap (λ z. z ++ back) split ∙ simp append_assoc refl in
     let o = optional_sees (codes "instance") before i w1 is_i
-        (unread_first (codes "instance") refl (refl, (refl, (refl, (refl, (refl, tt))))) refl refl i result r w2 is_r s5.1) in
+    (unread_first (codes "instance") refl (refl, (refl, (refl, (refl, (refl, tt))))) refl refl i result r w2 is_r s5.1) in
     ap read_method_ref whole
     ∙ rw (o.0, o.1)
-        (by_step (read_result w1) _ _ r w2 (result_complete (unless_read i (codes "instance")) result r w2 is_r m2.0 s5.1 (ends_type [] class c w3 is_c s4.1))
-        (by_step (read_type w2) _ _ c w3 (type_complete [] class c w3 is_c m2.1.0 s4.1 (ends_at (codes "::") colons w4 h_colons refl refl))
-        (by_step (expect (codes "::") w3) _ _ tt w4 (expect-is (codes "::") colons w4 h_colons)
-        (by_step (read_method_name w4) _ _ (name_at name) w5 (method_name_complete name w5 is_name)
-        (by_step (read_arguments w5) _ _ ts w6 (arguments_complete args ts w6 is_args m2.1.1 s3.1.1.1 (sees-other (codes "<") (codes "(") left (inside ++ right ∷ back) opens refl))
-        (by_step (read_enclosed read_params w6) _ _ ps back (enclosed_complete read_params left inside right ps back opens closes
-            (params_complete inside ps right back is_params m1.1 s2.1.1 closes)) refl))))))
+    (by_step (read_result w1) _ _ r w2 (result_complete (unless_read i (codes "instance")) result r w2 is_r m2.0 s5.1 (ends_type [] class c w3 is_c s4.1))
+    (by_step (read_type w2) _ _ c w3 (type_complete [] class c w3 is_c m2.1.0 s4.1 (ends_at (codes "::") colons w4 h_colons refl refl))
+    (by_step (expect (codes "::") w3) _ _ tt w4 (expect-is (codes "::") colons w4 h_colons)
+    (by_step (read_method_name w4) _ _ (name_at name) w5 (method_name_complete name w5 is_name)
+    (by_step (read_arguments w5) _ _ ts w6 (arguments_complete args ts w6 is_args m2.1.1 s3.1.1.1 (sees-other (codes "<") (codes "(") left (inside ++ right ∷ back) opens refl))
+    (by_step (read_enclosed read_params w6) _ _ ps back (enclosed_complete read_params left inside right ps back opens closes
+    (params_complete inside ps right back is_params m1.1 s2.1.1 closes)) refl))))))
 
 pub field_ref_complete : (front : List Lexeme) (f : WrittenFieldRef) (back : List Lexeme) → IsFieldRef front f → AreSmall (types_of_field_ref f) → AreSpelled front →
     read_field_ref (front ++ back) ≡ Ok (f, back)
@@ -181,6 +177,6 @@ field_ref_complete front f back (field_ref ws kind class colons name k c split i
     let whole : ws ++ back ≡ kind ++ w1 = ap (λ z. z ++ back) split ∙ simp append_assoc refl in
     ap read_field_ref whole
     ∙ by_step (read_type (kind ++ w1)) _ _ k w1 (type_complete [] kind k w1 is_k small.0 s2.0 (ends_type [] class c w2 is_c s2.1))
-        (by_step (read_type w1) _ _ c w2 (type_complete [] class c w2 is_c small.1.0 s2.1 (ends_at (codes "::") colons w3 h_colons refl refl))
-        (by_step (expect (codes "::") w2) _ _ tt w3 (expect-is (codes "::") colons w3 h_colons)
-        (by_step (read_name_but [] w3) _ _ (name_at name) back (name_complete [] name back is_name) refl)))
+    (by_step (read_type w1) _ _ c w2 (type_complete [] class c w2 is_c small.1.0 s2.1 (ends_at (codes "::") colons w3 h_colons refl refl))
+    (by_step (expect (codes "::") w2) _ _ tt w3 (expect-is (codes "::") colons w3 h_colons)
+    (by_step (read_name_but [] w3) _ _ (name_at name) back (name_complete [] name back is_name) refl)))

@@ -1,26 +1,25 @@
 -- What is read as a program is that of the grammar, within the limits, where calls are.
-use Rattle.std.proofs.Common.{◌≡◌, ℕ, zero, suc, ◌+◌, ◌-◌, ◌<◌, ◌≤◌, Bool, true, false, if◌then◌else◌, List, [], ◌∷◌, ◌++◌, length, flat_map, option_to_list, Option, Some, None, Result, Ok, Err, refl, sym, ap, subst, ◌∙◌, codes, append_assoc, append-nil, bytes_eq, inl, inr, arith, Contains, All, slice_index_or}
+use Rattle.std.proofs.Common.{◌≡◌, ℕ, zero, suc, ◌≤◌, Bool, true, false, if◌then◌else◌, List, [], ◌∷◌, ◌++◌, length, flat_map, option_to_list, Result, Ok, Err, sym, ap, subst, ◌∙◌, codes, append_assoc, append-nil, bytes_eq, arith, Contains, All}
 use Rattle.std.specs.List.{AllByRecursion}
-use Rattle.std.proofs.lemmas.Bool.{true≢false, cases_Bool}
+use Rattle.std.proofs.lemmas.Bool.{true≢false}
 use Rattle.std.proofs.lemmas.List.{length-append}
 use Rattle.il_model.specs.declared.written.WrittenType.{WrittenType}
 use Rattle.il_model.specs.declared.written.WrittenBody.{WrittenBody}
 use Rattle.il_model.specs.declared.written.WrittenMethod.{WrittenMethod}
 use Rattle.il_model.specs.declared.written.WrittenClass.{WrittenClass}
-use Rattle.il_model.specs.Lexemes.{Lexeme, Many, none, more}
-use Rattle.il_model.specs.Library.{library_classes, library_methods}
+use Rattle.il_model.specs.Lexemes.{Lexeme, none, more}
 use Rattle.il_model.specs.Bounds.{written_positions, instrs_of, types_of_class, methods_of, all_methods, IsSmall, IsSmallMethod}
-use Rattle.il_model.specs.Classes.{IsClass, IsProgram}
-use Rattle.il_model.specs.LookUp.{EntriesFit, EntryFits}
+use Rattle.il_model.specs.Classes.{IsProgram}
+use Rattle.il_model.specs.LookUp.{EntriesFit}
 use Rattle.il_parse.specs.declared.fault.Fault.{Fault}
 use Rattle.il_parse.specs.declared.fault.ParseCause.TheVariants as cause
-use Rattle.il_parse.specs.Reading.{Read, Reader, fault_at, stuck_fault}
+use Rattle.il_parse.specs.Reading.{Read, fault_at, stuck_fault}
 use Rattle.il_parse.specs.Classes.{is_empty, read_class, classes_from, class_room, method_room, outcome, read_program}
-use Rattle.il_parse.proofs.Steps.{AreSpelled, spelled_rest, Took, refusal, value_of, rest_of, stepped}
+use Rattle.il_parse.proofs.Steps.{AreSpelled, spelled_rest, refusal, value_of, stepped}
 use Rattle.il_parse.proofs.ListsSound.{AreSmall, small-append}
 use Rattle.il_parse.proofs.InstrsSound.{CallsAreSound}
 use Rattle.il_parse.proofs.MethodsSound.{MethodFine, empty_is}
-use Rattle.il_parse.proofs.ClassesSound.{ClassRead, class_sound}
+use Rattle.il_parse.proofs.ClassesSound.{class_sound}
 
 -- a class within its limits
 record ClassFine (c : WrittenClass) : Type 0 where
@@ -91,17 +90,19 @@ fine_methods : (cs : List WrittenClass) → AllByRecursion ClassFine cs → AllB
 fine_methods [] all = tt
 fine_methods (c ∷ cs) all =
     all-append IsSmallMethod (methods_of c.members) (all_methods cs)
-        (all_map (MethodFine (is_empty c.vars)) IsSmallMethod (small_method (is_empty c.vars)) (methods_of c.members) all.0.methods) (fine_methods cs all.1)
+    (all_map (MethodFine (is_empty c.vars)) IsSmallMethod (small_method (is_empty c.vars)) (methods_of c.members) all.0.methods) (fine_methods cs all.1)
 
 fine_types : (cs : List WrittenClass) → AllByRecursion ClassFine cs → AreSmall (flat_map types_of_class cs)
 fine_types [] all = tt
 fine_types (c ∷ cs) all = small-append (types_of_class c) (flat_map types_of_class cs) all.0.small (fine_types cs all.1)
 
 entries_fit : (c : WrittenClass) → ClassFine c → EntriesFit c
-entries_fit c f = record { each = λ m inside at has.
-    let fine = all_contains (MethodFine (is_empty c.vars)) (methods_of c.members) m f.methods inside in
-    let b = fine.begins at has in
-    (empty_is c.vars b.0, b.1) }
+entries_fit c f = record {
+  each = λ m inside at has.
+      let fine = all_contains (MethodFine (is_empty c.vars)) (methods_of c.members) m f.methods inside in
+      let b = fine.begins at has in
+      (empty_is c.vars b.0, b.1);
+}
 
 -- a program that is read is in the grammar, within the limits, and its entry points fit
 pub record ProgramRead (ws : List Lexeme) (classes : List WrittenClass) : Type 0 where

@@ -1,21 +1,20 @@
 -- A type of the grammar is read as itself, whatever stands behind it.
-use Rattle.std.proofs.Common.{◌≡◌, ℕ, zero, suc, ◌+◌, ◌-◌, ◌==◌, ◌<◌, ◌≤◌, Bool, true, false, ◌&&◌, ◌||◌, if◌then◌else◌, IsTrue, List, [], ◌∷◌, ◌++◌, drop, map, sum, Option, Some, None, Ok, Err, refl, sym, ap, subst, ◌∙◌, codes, append_assoc, bytes_eq, inl, inr, arith, find, option_map}
+use Rattle.std.proofs.Common.{◌≡◌, ℕ, zero, suc, ◌+◌, ◌-◌, ◌==◌, ◌<◌, ◌≤◌, Bool, true, false, if◌then◌else◌, List, [], ◌∷◌, ◌++◌, drop, map, sum, Option, Some, None, Ok, Err, refl, sym, ap, subst, ◌∙◌, codes, append_assoc, bytes_eq, inl, inr, arith, find, option_map}
 use Rattle.std.specs.List.{AllByRecursion, list_any, list_all}
 use Rattle.std.proofs.lemmas.Bool.{true≢false, cases_Bool, and_parts, or_parts, or_cases, eqb-true, ne_eqb}
 use Rattle.std.proofs.lemmas.Slice.Eq.{bytes_eq-Decides}
-use Rattle.il_text.specs.declared.token.TokenKind.{TokenKind}
 use Rattle.il_text.specs.declared.token.TokenKind.TheVariants as token
-use Rattle.il_text.specs.Bytes.{is_word_start, is_digit}
-use Rattle.il_text.specs.Spelling.{spells, is_word, is_variable, is_class_variable, is_method_variable, is_led_by, is_run}
+use Rattle.il_text.specs.Bytes.{is_digit}
+use Rattle.il_text.specs.Spelling.{spells, is_word, is_variable, is_class_variable, is_method_variable, is_run}
 use Rattle.il_model.specs.declared.written.WrittenType.{WrittenType}
 use Rattle.il_model.specs.declared.written.WrittenType.TheVariants as w
-use Rattle.il_model.specs.Lexemes.{Lexeme, Is, IsName, is_among, name_at}
+use Rattle.il_model.specs.Lexemes.{Lexeme, Is, IsName, name_at}
 use Rattle.il_model.specs.Words.{type_words, type_keywords}
 use Rattle.il_model.specs.Bounds.{written_positions}
 use Rattle.il_model.specs.Types.{IsType, keyword, variable, named, applied, vector, AreTypes, last_type, next_type}
-use Rattle.il_parse.specs.Reading.{Read, Reader, and_then, sees, after, expect, stuck_fault}
-use Rattle.il_parse.specs.Types.{keyword_type, Head, whole, class_name, no_type, head_by_kind, head_or_kind, head_of, read_vectors, inner_types_from, read_applied, read_headed, past_head, read_no_head, read_type_within}
-use Rattle.il_parse.proofs.Finding.{found_in, found_passes, made, none_is, all_contains}
+use Rattle.il_parse.specs.Reading.{Reader, sees, after, expect, stuck_fault}
+use Rattle.il_parse.specs.Types.{keyword_type, head_by_kind, head_or_kind, head_of, read_vectors, inner_types_from, read_applied, read_headed, past_head, read_type_within}
+use Rattle.il_parse.proofs.Finding.{found_in, found_passes, made, all_contains}
 use Rattle.il_parse.proofs.Steps.{AreSpelled, spelled-append, by_step}
 use Rattle.il_parse.proofs.TypesSound.{positions-vector, positions-named, positions-variable, keyword_positions, sum-cons}
 
@@ -44,16 +43,18 @@ pub no_mark : (m : List ℕ) (l : Lexeme) → l.kind ≡ token.Word → spells l
 no_mark m l word s other =
     elim (cases_Bool (bytes_eq m l.bytes)) [
       | inl hit ↦
-        let w : is_word l.bytes ≡ true = ap (λ k. spells k l.bytes) (sym word) ∙ s in
-        absurd (true≢false (sym w ∙ ap is_word (sym ((bytes_eq-Decides m l.bytes).0 hit)) ∙ other))
-      | inr miss ↦ miss ]
+          let w : is_word l.bytes ≡ true = ap (λ k. spells k l.bytes) (sym word) ∙ s in
+          absurd (true≢false (sym w ∙ ap is_word (sym ((bytes_eq-Decides m l.bytes).0 hit)) ∙ other))
+      | inr miss ↦ miss
+    ]
 
 variable_no_word : (bytes : List ℕ) → is_variable bytes ≡ true → is_word bytes ≡ false
 variable_no_word [] v = refl
 variable_no_word (b ∷ bs) v =
     let first : (b == 33) ≡ true = elim (or_cases (is_class_variable (b ∷ bs)) (is_method_variable (b ∷ bs)) v) [
       | inl c ↦ (and_parts (b == 33) (is_run is_digit bs) c).0
-      | inr m ↦ (and_parts (b == 33) (is_class_variable bs) m).0 ] in
+      | inr m ↦ (and_parts (b == 33) (is_class_variable bs) m).0
+    ] in
     ap (λ c. is_word (c ∷ bs)) (eqb-true b 33 first)
 
 keyword_words : list_all (λ (row : List ℕ × WrittenType). is_word row.0) type_words ≡ true
@@ -132,14 +133,14 @@ args_goes inner n goes (suc k) found left front ts back (next_type mark ws first
     let whole : ws ++ back ≡ first ++ l ∷ (rest ++ back) = ap (λ z. z ++ back) split ∙ append_assoc first (l ∷ rest) back in
     let no_vector2 = sees-other (codes "[]") (codes ",") l (rest ++ back) same refl in
     let read = goes left first t (l ∷ (rest ++ back)) is parts.0 (sees-other (codes "<") (codes ",") l (rest ++ back) same refl) (omega (arith, room, all)) within
-        ∙ vectors-end t (left - written_positions t) (l ∷ (rest ++ back)) no_vector2 in
+    ∙ vectors-end t (left - written_positions t) (l ∷ (rest ++ back)) no_vector2 in
     let later = args_goes inner n goes k (found ++ t ∷ []) (left - written_positions t) rest us back are parts.1.1 no_left no_vector no_comma
-        (omega (arith, room, all)) (omega (arith, within)) (omega (arith, more, positive [] first t is, room, all)) in
+    (omega (arith, room, all)) (omega (arith, within)) (omega (arith, more, positive [] first t is, room, all)) in
     let same_ts : (found ++ t ∷ []) ++ us ≡ found ++ t ∷ us = append_assoc found (t ∷ []) us in
     let same_room : left - written_positions t - sum (map written_positions us) ≡ left - sum (map written_positions (t ∷ us)) = omega (arith, all) in
     ap (inner_types_from inner (suc k) found left) whole
     ∙ by_step (inner left (first ++ l ∷ (rest ++ back))) _ _ (t, left - written_positions t) (l ∷ (rest ++ back)) read
-        (rw (sees-is (codes ",") l (rest ++ back) same, after-is (codes ",") l (rest ++ back) same) later)
+    (rw (sees-is (codes ",") l (rest ++ back) same, after-is (codes ",") l (rest ++ back) same) later)
     ∙ ap (λ xs. Ok ((xs, left - written_positions t - sum (map written_positions us)), back)) same_ts
     ∙ ap (λ m. Ok ((found ++ t ∷ us, m), back)) same_room
 
@@ -151,10 +152,10 @@ applied_goes : (inner : ℕ → Reader (WrittenType × ℕ)) (n : ℕ) → Inner
 unfolding read_applied InnerGoes
 applied_goes inner n goes k left l ts lt front gt back opens are s closes room within more =
     let args = args_goes inner n goes k [] left front ts (gt ∷ back) are s (sees-other (codes "<") (codes ">") gt back closes refl)
-        (sees-other (codes "[]") (codes ">") gt back closes refl) (sees-other (codes ",") (codes ">") gt back closes refl) room within more in
+    (sees-other (codes "[]") (codes ">") gt back closes refl) (sees-other (codes ",") (codes ">") gt back closes refl) room within more in
     rw (sees-is (codes "<") lt (front ++ gt ∷ back) opens, after-is (codes "<") lt (front ++ gt ∷ back) opens)
-        (by_step (inner_types_from inner k [] left (front ++ gt ∷ back)) _ _ (ts, left - sum (map written_positions ts)) (gt ∷ back) args
-        (by_step (expect (codes ">") (gt ∷ back)) _ _ tt back (expect-is (codes ">") gt back closes) refl))
+    (by_step (inner_types_from inner k [] left (front ++ gt ∷ back)) _ _ (ts, left - sum (map written_positions ts)) (gt ∷ back) args
+    (by_step (expect (codes ">") (gt ∷ back)) _ _ tt back (expect-is (codes ">") gt back closes) refl))
 
 no_arguments_goes : (n : ℕ) (l : Lexeme) (left : ℕ) (back : List Lexeme) → sees (codes "<") back ≡ false →
     read_applied (λ more. read_type_within n more) (suc n) (name_at l) left back ≡ read_vectors (w.Named (name_at l) []) left back
@@ -199,7 +200,7 @@ head_goes n goes quoted left front t back (applied q ws inner l lt gt u args spl
     ∙ ap (λ k. past_head (head_or_kind l k) (read_headed (λ more. read_type_within n more) (suc n) (head_or_kind l k) (left - 1)) (l ∷ lt ∷ inner ++ gt ∷ back)) none
     ∙ ap (λ k. past_head (head_by_kind l k) (read_headed (λ more. read_type_within n more) (suc n) (head_by_kind l k) (left - 1)) (l ∷ lt ∷ inner ++ gt ∷ back)) name.word
     ∙ applied_goes (λ more. read_type_within n more) n goes (suc n) (left - 1) l args lt inner gt back opens are parts.0 closes
-        (omega (arith, room, all)) (omega (arith, within)) (omega (arith, within, room, all))
+    (omega (arith, room, all)) (omega (arith, within)) (omega (arith, within, room, all))
     ∙ ap (λ v. read_vectors v (left - 1 - sum (map written_positions args)) back) (sym e)
     ∙ ap (λ m. read_vectors t m back) (omega (arith, all))
 head_goes n goes quoted left front t back (vector q ws first l u element split is same e) s free room within =

@@ -1,6 +1,6 @@
 -- What is read as a type is a type of the grammar.
-use Rattle.std.proofs.Common.{◌≡◌, ℕ, zero, suc, ◌+◌, ◌-◌, ◌==◌, ◌||◌, Bool, true, false, if◌then◌else◌, List, [], ◌∷◌, ◌++◌, Option, Some, None, Ok, Err, refl, sym, ap, subst, ◌∙◌, append_assoc, append-nil, bytes_eq, codes, arith, inl, inr, sum, fold, map, find, Contains}
-use Rattle.std.proofs.lemmas.Bool.{true≢false, cases_Bool, eqb-false, or_parts, or_from}
+use Rattle.std.proofs.Common.{◌≡◌, ℕ, zero, suc, ◌+◌, ◌-◌, ◌==◌, ◌||◌, Bool, false, List, [], ◌∷◌, ◌++◌, Option, Some, None, Ok, refl, sym, ap, subst, ◌∙◌, append_assoc, append-nil, bytes_eq, codes, arith, inl, inr, sum, fold, map, find, Contains}
+use Rattle.std.proofs.lemmas.Bool.{cases_Bool, eqb-false, or_parts, or_from}
 use Rattle.std.proofs.lemmas.Slice.Eq.{bytes_eq-Decides}
 use Rattle.il_text.specs.declared.token.TokenKind.{TokenKind}
 use Rattle.il_text.specs.declared.token.TokenKind.TheVariants as token
@@ -10,7 +10,7 @@ use Rattle.il_model.specs.declared.written.WrittenType.TheFolds.{fold-roll-Writt
 use Rattle.il_model.specs.declared.written.WrittenType as views
 use Rattle.il_model.specs.declared.written.WrittenType.TheOpen.{WrittenType-F}
 use Rattle.il_model.specs.declared.written.WrittenName.{WrittenName}
-use Rattle.il_model.specs.Lexemes.{Lexeme, Is, IsName, is_among, name_at}
+use Rattle.il_model.specs.Lexemes.{Lexeme, IsName, is_among, name_at}
 use Rattle.il_model.specs.Bounds.{written_positions, level_positions}
 use Rattle.il_model.specs.Types.{IsType, keyword, variable, named, applied, vector, AreTypes, last_type, next_type}
 use Rattle.il_model.specs.Words.{type_words, type_keywords}
@@ -19,7 +19,7 @@ use Rattle.il_parse.specs.Reading.{Read, Reader, fault_at, stuck_fault, expect}
 use Rattle.il_parse.specs.Types.{keyword_type, Head, whole, class_name, no_type, head_by_kind, head_or_kind, read_vectors, inner_types_from, read_applied, read_headed, head_of, read_no_head, past_head, read_type_within}
 use Rattle.std.specs.List.{AllByRecursion, list_any}
 use Rattle.il_parse.proofs.Finding.{found_in, found_holds, made, unmade, none_found}
-use Rattle.il_parse.proofs.Steps.{Took, refusal, value_of, rest_of, bound, seen, Seen, there, absent, expected}
+use Rattle.il_parse.proofs.Steps.{refusal, value_of, rest_of, bound, seen, there, absent, expected}
 
 pub positions-vector : (t : WrittenType) → written_positions (w.Vector t) ≡ 1 + written_positions t
 unfolding views.roll-WrittenType denote.Hole.Carrier.roll
@@ -50,22 +50,24 @@ vectors_sound quoted begun t left (l ∷ ws) p back is e =
       | inl hit ↦ elim (cases_Bool (left == 0)) [
         | inl none ↦ refusal (fault_at (l ∷ ws) cause.TooMany) p back (rw (hit, none) at e)
         | inr some ↦
-          let rest = vectors_sound quoted (begun ++ l ∷ []) (w.Vector t) (left - 1) ws p back
-              (vector quoted (begun ++ l ∷ []) begun l (w.Vector t) t refl is (sym ((bytes_eq-Decides (codes "[]") l.bytes).0 hit)) refl)
-              (rw (hit, some) at e) in
-          record {
-            more = l ∷ rest.more;
-            split = ap (λ r. l ∷ r) rest.split;
-            holds = subst (λ ws. IsType quoted ws p.0) (append_assoc begun (l ∷ []) rest.more) rest.holds;
-            count = rest.count ∙ omega (arith, positions-vector t, eqb-false left 0 some);
-          } ]
+            let rest = vectors_sound quoted (begun ++ l ∷ []) (w.Vector t) (left - 1) ws p back
+            (vector quoted (begun ++ l ∷ []) begun l (w.Vector t) t refl is (sym ((bytes_eq-Decides (codes "[]") l.bytes).0 hit)) refl)
+            (rw (hit, some) at e) in
+            record {
+              more = l ∷ rest.more;
+              split = ap (λ r. l ∷ r) rest.split;
+              holds = subst (λ ws. IsType quoted ws p.0) (append_assoc begun (l ∷ []) rest.more) rest.holds;
+              count = rest.count ∙ omega (arith, positions-vector t, eqb-false left 0 some);
+            }
+      ]
       | inr other ↦
-        record {
-          more = [];
-          split = rest_of (t, left) p (l ∷ ws) back (rw other at e);
-          holds = subst (IsType quoted (begun ++ [])) (ap (λ q. q.0) (value_of (t, left) p (l ∷ ws) back (rw other at e))) (subst (λ ws. IsType quoted ws t) (sym (append-nil begun)) is);
-          count = ap (λ q. written_positions q.0 + q.1) (sym (value_of (t, left) p (l ∷ ws) back (rw other at e)));
-        } ]
+          record {
+            more = [];
+            split = rest_of (t, left) p (l ∷ ws) back (rw other at e);
+            holds = subst (IsType quoted (begun ++ [])) (ap (λ q. q.0) (value_of (t, left) p (l ∷ ws) back (rw other at e))) (subst (λ ws. IsType quoted ws t) (sym (append-nil begun)) is);
+            count = ap (λ q. written_positions q.0 + q.1) (sym (value_of (t, left) p (l ∷ ws) back (rw other at e)));
+          }
+    ]
 
 -- the first lexeme is none of these words
 abbrev pub FreeOf : List (List ℕ) → List Lexeme → Type 0
@@ -86,9 +88,19 @@ positions-object = fold-roll-WrittenType ℕ level_positions WrittenType-F.Objec
 
 pub keyword_positions : AllByRecursion (λ (row : List ℕ × WrittenType). written_positions row.1 ≡ 1) type_words
 unfolding views.roll-WrittenType denote.Hole.Carrier.roll
-keyword_positions = (fold-roll-WrittenType ℕ level_positions WrittenType-F.Int32, (fold-roll-WrittenType ℕ level_positions WrittenType-F.Int64,
-    (fold-roll-WrittenType ℕ level_positions WrittenType-F.Bool, (fold-roll-WrittenType ℕ level_positions WrittenType-F.Object,
-    (fold-roll-WrittenType ℕ level_positions WrittenType-F.String, tt)))))
+keyword_positions = (
+  fold-roll-WrittenType ℕ level_positions WrittenType-F.Int32,
+  (
+    fold-roll-WrittenType ℕ level_positions WrittenType-F.Int64,
+    (
+      fold-roll-WrittenType ℕ level_positions WrittenType-F.Bool,
+      (
+        fold-roll-WrittenType ℕ level_positions WrittenType-F.Object,
+        (fold-roll-WrittenType ℕ level_positions WrittenType-F.String, tt),
+      ),
+    ),
+  ),
+)
 
 pub positions-variable : (name : WrittenName) → written_positions (w.Variable name) ≡ 1
 unfolding views.roll-WrittenType denote.Hole.Carrier.roll
@@ -100,9 +112,10 @@ keyword_sound bytes t e =
     let m = made (λ row. row.1) (find (λ row. bytes_eq row.0 bytes) type_words) t e in
     let f = found_in (λ row. bytes_eq row.0 bytes) type_words m.item m.found in
     let p = found_holds (λ row. written_positions row.1 ≡ 1) (λ row. bytes_eq row.0 bytes) type_words m.item keyword_positions m.found in
-    let same : m.item.0 ≡ bytes = (bytes_eq-Decides m.item.0 bytes).0 f.1 in
-    (subst (λ b. Contains type_words (b, t)) same (subst (λ u. Contains type_words (m.item.0, u)) m.gives f.0),
-    subst (λ u. written_positions u ≡ 1) m.gives p)
+    let same : m.item.0 ≡ bytes = (bytes_eq-Decides m.item.0 bytes).0 f.1 in (
+      subst (λ b. Contains type_words (b, t)) same (subst (λ u. Contains type_words (m.item.0, u)) m.gives f.0),
+      subst (λ u. written_positions u ≡ 1) m.gives p,
+    )
 
 any-append : (test : List ℕ → Bool) (xs ys : List (List ℕ)) → list_any test xs ≡ false → list_any test ys ≡ false → list_any test (xs ++ ys) ≡ false
 any-append test [] ys a b = b
@@ -154,26 +167,27 @@ args_sound inner sound (suc n) found left ws q back e =
     let t = sound left ws b.value b.mid b.first in
     elim (seen (codes ",") b.mid) [
       | there l rest split same hit behind ↦
-        let more = args_sound inner sound n (found ++ b.value.0 ∷ []) b.value.1 rest q back (rw (hit, behind) at b.second) in
-        record {
-          front = t.more ++ l ∷ more.front;
-          types = b.value.0 ∷ more.types;
-          split = t.split ∙ ap (λ r. t.more ++ r) (split ∙ ap (λ r. l ∷ r) more.split) ∙ sym (append_assoc t.more (l ∷ more.front) back);
-          all = more.all ∙ append_assoc found (b.value.0 ∷ []) more.types;
-          are = next_type (codes ",") (t.more ++ l ∷ more.front) t.more more.front l b.value.0 more.types refl t.holds same more.are;
-          count = omega (arith, t.count, more.count, sum-cons (written_positions b.value.0) (map written_positions more.types));
-        }
+          let more = args_sound inner sound n (found ++ b.value.0 ∷ []) b.value.1 rest q back (rw (hit, behind) at b.second) in
+          record {
+            front = t.more ++ l ∷ more.front;
+            types = b.value.0 ∷ more.types;
+            split = t.split ∙ ap (λ r. t.more ++ r) (split ∙ ap (λ r. l ∷ r) more.split) ∙ sym (append_assoc t.more (l ∷ more.front) back);
+            all = more.all ∙ append_assoc found (b.value.0 ∷ []) more.types;
+            are = next_type (codes ",") (t.more ++ l ∷ more.front) t.more more.front l b.value.0 more.types refl t.holds same more.are;
+            count = omega (arith, t.count, more.count, sum-cons (written_positions b.value.0) (map written_positions more.types));
+          }
       | absent none stays ↦
-        let e2 : (let r : Read (List WrittenType × ℕ) = Ok ((found ++ b.value.0 ∷ [], b.value.1), b.mid) in r ≡ Ok (q, back)) = rw (none, stays) at b.second in
-        let is = value_of (found ++ b.value.0 ∷ [], b.value.1) q b.mid back e2 in
-        record {
-          front = t.more;
-          types = b.value.0 ∷ [];
-          split = t.split ∙ ap (λ r. t.more ++ r) (rest_of (found ++ b.value.0 ∷ [], b.value.1) q b.mid back e2);
-          all = ap (λ p. p.0) (sym is);
-          are = last_type (codes ",") t.more b.value.0 t.holds;
-          count = omega (arith, t.count, ap (λ p. p.1) is, sum-cons (written_positions b.value.0) []);
-        } ]
+          let e2 : (let r : Read (List WrittenType × ℕ) = Ok ((found ++ b.value.0 ∷ [], b.value.1), b.mid) in r ≡ Ok (q, back)) = rw (none, stays) at b.second in
+          let is = value_of (found ++ b.value.0 ∷ [], b.value.1) q b.mid back e2 in
+          record {
+            front = t.more;
+            types = b.value.0 ∷ [];
+            split = t.split ∙ ap (λ r. t.more ++ r) (rest_of (found ++ b.value.0 ∷ [], b.value.1) q b.mid back e2);
+            all = ap (λ p. p.0) (sym is);
+            are = last_type (codes ",") t.more b.value.0 t.holds;
+            count = omega (arith, t.count, ap (λ p. p.1) is, sum-cons (written_positions b.value.0) []);
+          }
+    ]
 
 enclosed_split : (rest front mid : List Lexeme) (r : Lexeme) (later more back : List Lexeme) → rest ≡ front ++ mid → mid ≡ r ∷ later → later ≡ more ++ back →
     rest ≡ ((front ++ r ∷ []) ++ more) ++ back
@@ -188,23 +202,24 @@ unfolding read_applied
 applied_sound inner sound n quoted l left ws p back name e =
     elim (seen (codes "<") ws) [
       | there lt rest split same hit behind ↦
-        let b = bound (inner_types_from inner n [] left rest) _ p back (rw (hit, behind) at e) in
-        let a = args_sound inner sound n [] left rest b.value b.mid b.first in
-        let c = bound (expect (codes ">") b.mid) _ p back b.second in
-        let x = expected (codes ">") b.mid c.value c.mid c.first in
-        let begun : List Lexeme = l ∷ lt ∷ a.front ++ x.token ∷ [] in
-        let are : AreTypes (codes ",") a.front b.value.0 = subst (AreTypes (codes ",") a.front) (sym a.all) a.are in
-        let g = vectors_sound quoted begun (w.Named (name_at l) b.value.0) b.value.1 c.mid p back
-            (applied quoted begun a.front l lt x.token (w.Named (name_at l) b.value.0) b.value.0 refl name same are x.same refl) c.second in
-        record {
-          more = begun ++ g.more;
-          split = ap (λ z. l ∷ z) (split ∙ ap (λ z. lt ∷ z) (enclosed_split rest a.front b.mid x.token c.mid g.more back a.split x.split g.split));
-          holds = g.holds;
-          count = omega (arith, g.count, positions-named (name_at l) b.value.0, ap (λ ts. sum (map written_positions ts)) a.all, a.count);
-        }
+          let b = bound (inner_types_from inner n [] left rest) _ p back (rw (hit, behind) at e) in
+          let a = args_sound inner sound n [] left rest b.value b.mid b.first in
+          let c = bound (expect (codes ">") b.mid) _ p back b.second in
+          let x = expected (codes ">") b.mid c.value c.mid c.first in
+          let begun : List Lexeme = l ∷ lt ∷ a.front ++ x.token ∷ [] in
+          let are : AreTypes (codes ",") a.front b.value.0 = subst (AreTypes (codes ",") a.front) (sym a.all) a.are in
+          let g = vectors_sound quoted begun (w.Named (name_at l) b.value.0) b.value.1 c.mid p back
+          (applied quoted begun a.front l lt x.token (w.Named (name_at l) b.value.0) b.value.0 refl name same are x.same refl) c.second in
+          record {
+            more = begun ++ g.more;
+            split = ap (λ z. l ∷ z) (split ∙ ap (λ z. lt ∷ z) (enclosed_split rest a.front b.mid x.token c.mid g.more back a.split x.split g.split));
+            holds = g.holds;
+            count = omega (arith, g.count, positions-named (name_at l) b.value.0, ap (λ ts. sum (map written_positions ts)) a.all, a.count);
+          }
       | absent none stays ↦
-        let g = vectors_sound quoted (l ∷ []) (w.Named (name_at l) []) left ws p back (named quoted l (w.Named (name_at l) []) name refl) (rw (none, stays) at e) in
-        record { more = l ∷ g.more; split = ap (λ z. l ∷ z) g.split; holds = g.holds; count = omega (arith, g.count, positions-named (name_at l) []) } ]
+          let g = vectors_sound quoted (l ∷ []) (w.Named (name_at l) []) left ws p back (named quoted l (w.Named (name_at l) []) name refl) (rw (none, stays) at e) in
+          record { more = l ∷ g.more; split = ap (λ z. l ∷ z) g.split; holds = g.holds; count = omega (arith, g.count, positions-named (name_at l) []) }
+    ]
 
 whole_sound : (quoted : List (List ℕ)) (l : Lexeme) (t : WrittenType) (left : ℕ) (ws : List Lexeme) (p : WrittenType × ℕ) (back : List Lexeme) →
     IsType quoted (l ∷ []) t → written_positions t ≡ 1 → read_vectors t left ws ≡ Ok (p, back) → Grown quoted [] (l ∷ ws) (1 + left) p back
@@ -256,7 +271,8 @@ type_within_sound (suc n) left quoted ws p back free e =
     elim (cases_Bool (left == 0)) [
       | inl none ↦ no_head (head_of ws) ws p back (rw none at e)
       | inr some ↦
-        let g = behind_head (λ more. read_type_within n more)
-            (λ room inside q rest f. type_within_sound n room [] inside q rest (no_quoted inside) f)
-            (suc n) quoted (left - 1) ws p back free (rw some at e) in
-        record { more = g.more; split = g.split; holds = g.holds; count = g.count ∙ omega (arith, eqb-false left 0 some) } ]
+          let g = behind_head (λ more. read_type_within n more)
+          (λ room inside q rest f. type_within_sound n room [] inside q rest (no_quoted inside) f)
+          (suc n) quoted (left - 1) ws p back free (rw some at e) in
+          record { more = g.more; split = g.split; holds = g.holds; count = g.count ∙ omega (arith, eqb-false left 0 some) }
+    ]
