@@ -14,3 +14,8 @@ mod ProgramsSound
 mod TypesComplete
 mod ListsComplete
 mod PartsComplete
+mod Turns
+mod ReadLemmas
+mod TypeLemmas
+mod TableLemmas
+mod OperandLemmas

@@ -1,7 +1,10 @@
 pub mod Reading
+pub mod Cursor
 pub mod Types
+pub mod Heads
 pub mod Members
 pub mod Mnemonics
+pub mod Tables
 pub mod Operands
 pub mod Bodies
 pub mod Classes

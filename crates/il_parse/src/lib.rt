@@ -2,7 +2,16 @@
 #![tactic(auto)]
 
 mod answer;
+mod cursor;
 mod fault;
+mod forms;
+mod library;
+mod literals;
+mod members;
+mod mnemonics;
+mod operands;
+mod params;
+mod types;
 
 pub use answer::{Parsed, Spots};
 pub use fault::{ParseCause, ParseFault};

@@ -1,0 +1,20 @@
+use Rattle.std.proofs.Common.{◌≡◌, Some, None, rules, arith}
+use Rattle.std.proofs.lemmas.Grind.{common_steps}
+use Rattle.il_model.specs.Literals.{int32_value}
+use Rattle.il_parse.specs.Cursor.{number_of_first}
+use Rattle.il_parse.proofs.ReadLemmas.{refused}
+use Rattle.il_parse.proofs.OperandLemmas.{number_out, number_in}
+use Rattle.il_parse.proofs.operands.read_int32.Goals as goal
+
+pub returns-in_default-int32_value : goal.returns-in_default-int32_value
+returns-in_default-int32_value c =
+    let some : Some c.in-Some.bytes.now ≡ number_of_first c.args.cursor.now = first_of (search rules, grind (arith, common_steps)) in
+    let none : None ≡ int32_value c.in-Some.bytes.now = first_of (search rules, grind (arith, common_steps)) in
+    refused _ _ _ _ c.stuck-in_default-int32_value.ensures (number_out int32_value c.args.cursor.now c.in-Some.bytes.now some none)
+
+pub returns : goal.returns
+returns c =
+    let some : Some c.in-Some.bytes.now ≡ number_of_first c.args.cursor.now = first_of (search rules, grind (arith, common_steps)) in
+    let value : Some c.in-Some-int32_value.value ≡ int32_value c.in-Some.bytes.now = first_of (search rules, grind (arith, common_steps)) in
+    let e = number_in int32_value c.args.cursor.now c.in-Some.bytes.now c.in-Some-int32_value.value some value in
+    first_of (search rules, grind (arith, common_steps))
