@@ -14,6 +14,8 @@ mod ProgramsSound
 mod TypesComplete
 mod ListsComplete
 mod PartsComplete
+mod NameOfCalls
+mod CallsSound
 mod Turns
 mod ReadLemmas
 mod TypeLemmas

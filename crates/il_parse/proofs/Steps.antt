@@ -110,3 +110,7 @@ spelled-append (l ∷ a) b s = let r = spelled-append a b s.1 in ((s.0, r.0), r.
 -- what remains is spelled where all is
 pub spelled_rest : (ws front mid : List Lexeme) → ws ≡ front ++ mid → AreSpelled ws → AreSpelled mid
 spelled_rest ws front mid split s = (spelled-append front mid (subst AreSpelled split s)).1
+
+-- what is read behind a step that is known
+pub next_of : {A B : Type 0} (r : Read A) (next : A → Reader B) (y : Read B) (x : A) (mid : List Lexeme) → r ≡ Ok (x, mid) → and_then r next ≡ y → next x mid ≡ y
+next_of r next y x mid first whole = sym (ap (λ s. and_then s next) first) ∙ whole

@@ -108,7 +108,7 @@ positive quoted ws t (applied q s inner l left right u args split n a are b e) =
 positive quoted ws t (vector q s front l u element split is same e) = omega (arith, ap written_positions e, positions-vector element)
 
 -- a reader of types inside another goes on behind a type with its vectors
-InnerGoes : (ℕ → Reader (WrittenType × ℕ)) → ℕ → Type 0
+abbrev pub InnerGoes : (ℕ → Reader (WrittenType × ℕ)) → ℕ → Type 0
 InnerGoes inner n = (left : ℕ) (front : List Lexeme) (t : WrittenType) (back : List Lexeme) → IsType [] front t → AreSpelled front → sees (codes "<") back ≡ false →
     written_positions t ≤ left → left ≤ n → inner left (front ++ back) ≡ read_vectors t (left - written_positions t) back
 
@@ -117,11 +117,11 @@ unfolding read_vectors sees
 vectors-end t left [] miss = refl
 vectors-end t left (l ∷ ws) miss = rw miss refl
 
-args_goes : (inner : ℕ → Reader (WrittenType × ℕ)) (n : ℕ) → InnerGoes inner n → (k : ℕ) (found : List WrittenType) (left : ℕ) (front : List Lexeme) (ts : List WrittenType) (back : List Lexeme) →
+pub args_goes : (inner : ℕ → Reader (WrittenType × ℕ)) (n : ℕ) → InnerGoes inner n → (k : ℕ) (found : List WrittenType) (left : ℕ) (front : List Lexeme) (ts : List WrittenType) (back : List Lexeme) →
     AreTypes (codes ",") front ts → AreSpelled front → sees (codes "<") back ≡ false → sees (codes "[]") back ≡ false → sees (codes ",") back ≡ false →
     sum (map written_positions ts) ≤ left → left ≤ n → left < k →
     inner_types_from inner k found left (front ++ back) ≡ Ok ((found ++ ts, left - sum (map written_positions ts)), back)
-unfolding inner_types_from InnerGoes
+unfolding inner_types_from
 args_goes inner n goes zero found left front ts back are s no_left no_vector no_comma room within k = absurd (omega (arith, k))
 args_goes inner n goes (suc k) found left front ts back (last_type mark ws t is) s no_left no_vector no_comma room within more =
     let one : sum (map written_positions (t ∷ [])) ≡ written_positions t = omega (arith, sum-cons (written_positions t) []) in
@@ -149,7 +149,7 @@ applied_goes : (inner : ℕ → Reader (WrittenType × ℕ)) (n : ℕ) → Inner
     (lt : Lexeme) (front : List Lexeme) (gt : Lexeme) (back : List Lexeme) → Is (codes "<") lt → AreTypes (codes ",") front ts → AreSpelled front → Is (codes ">") gt →
     sum (map written_positions ts) ≤ left → left ≤ n → left < k →
     read_applied inner k (name_at l) left (lt ∷ front ++ gt ∷ back) ≡ read_vectors (w.Named (name_at l) ts) (left - sum (map written_positions ts)) back
-unfolding read_applied InnerGoes
+unfolding read_applied
 applied_goes inner n goes k left l ts lt front gt back opens are s closes room within more =
     let args = args_goes inner n goes k [] left front ts (gt ∷ back) are s (sees-other (codes "<") (codes ">") gt back closes refl)
     (sees-other (codes "[]") (codes ">") gt back closes refl) (sees-other (codes ",") (codes ">") gt back closes refl) room within more in
@@ -172,7 +172,7 @@ head_goes : (n : ℕ) → InnerGoes (λ more. read_type_within n more) n → (qu
     IsType quoted front t → AreSpelled front → sees (codes "<") back ≡ false → written_positions t ≤ left → left ≤ suc n →
     past_head (head_of (front ++ back)) (read_headed (λ more. read_type_within n more) (suc n) (head_of (front ++ back)) (left - 1)) (front ++ back)
     ≡ read_vectors t (left - written_positions t) back
-unfolding head_of InnerGoes
+unfolding head_of
 head_goes n goes quoted left front t back (keyword q l u c) s free room within =
     let is : keyword_type l.bytes ≡ Some t = all_contains (λ (row : List ℕ × WrittenType). keyword_type row.0 ≡ Some row.1) type_words (l.bytes, t) keyword_rows c in
     let one : written_positions t ≡ 1 = all_contains (λ (row : List ℕ × WrittenType). written_positions row.1 ≡ 1) type_words (l.bytes, t) keyword_positions c in
@@ -216,7 +216,7 @@ head_goes n goes quoted left front t back (vector q ws first l u element split i
 pub type_goes : (n : ℕ) (quoted : List (List ℕ)) (left : ℕ) (front : List Lexeme) (t : WrittenType) (back : List Lexeme) →
     IsType quoted front t → AreSpelled front → sees (codes "<") back ≡ false → written_positions t ≤ left → left ≤ n →
     read_type_within n left (front ++ back) ≡ read_vectors t (left - written_positions t) back
-unfolding read_type_within InnerGoes
+unfolding read_type_within
 type_goes zero quoted left front t back is s free room within = absurd (omega (arith, positive quoted front t is, room, within))
 type_goes (suc n) quoted left front t back is s free room within =
     let some : (left == 0) ≡ false = ne_eqb left 0 (λ z. absurd (omega (arith, z, positive quoted front t is, room))) in

@@ -82,6 +82,10 @@ pub positions-int64 : written_positions w.Int64 ≡ 1
 unfolding views.roll-WrittenType denote.Hole.Carrier.roll
 positions-int64 = fold-roll-WrittenType ℕ level_positions WrittenType-F.Int64
 
+pub positions-string : written_positions w.String ≡ 1
+unfolding views.roll-WrittenType denote.Hole.Carrier.roll
+positions-string = fold-roll-WrittenType ℕ level_positions WrittenType-F.String
+
 pub positions-object : written_positions w.Object ≡ 1
 unfolding views.roll-WrittenType denote.Hole.Carrier.roll
 positions-object = fold-roll-WrittenType ℕ level_positions WrittenType-F.Object

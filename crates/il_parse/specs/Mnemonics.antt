@@ -1,6 +1,6 @@
 -- The words of instructions, from the word to what it means. The forms and spellings are those of the model.
 use Rattle.std.specs.Prelude.{ℕ, Bool, true, false, ◌&&◌, if◌then◌else◌, List, [], ◌∷◌, Option, Some, None, option_map, codes, bytes_eq}
-use Rattle.std.specs.List.{find, starts_with}
+use Rattle.std.specs.List.{find}
 use Rattle.il_model.specs.declared.form.Form.{Form}
 use Rattle.il_model.specs.declared.form.Form.TheVariants as form
 use Rattle.il_model.specs.declared.written.WrittenType.{WrittenType}
@@ -70,6 +70,12 @@ is_whole_call words (library_call first []) = same_words first words
 is_whole_call words (library_call first (last ∷ lasts)) = false
 is_whole_call words no_text = false
 
+-- the second words begin with the first
+abbrev pub begin_with : List (List ℕ) → List (List ℕ) → Bool
+begin_with [] words = true
+begin_with (a ∷ first) [] = false
+begin_with (a ∷ first) (b ∷ words) = bytes_eq a b && begin_with first words
+
 -- the words in front of a form's type argument
 abbrev pub words_before : FormWord → List (List ℕ)
 words_before (word spelling) = []
@@ -86,7 +92,7 @@ only_argument (t ∷ u ∷ ts) ps = None
 -- `NameOf` of a type
 abbrev pub name_of_call : List (List ℕ) → WrittenMethodRef → Option (Form × WrittenOperand)
 name_of_call words m =
-    if starts_with bytes_eq (words_before (word_of form.NameOf)) words
+    if begin_with (words_before (word_of form.NameOf)) words
     then option_map (λ t. (form.NameOf, operand.Type t)) (only_argument m.args m.params) else None
 
 -- the call of the library that these words spell, which are those of this method
