@@ -15,7 +15,9 @@ mod TypesComplete
 mod ListsComplete
 mod PartsComplete
 mod NameOfCalls
+mod FormsListed
 mod CallsSound
+mod TextsSound
 mod Turns
 mod ReadLemmas
 mod TypeLemmas

@@ -1,28 +1,27 @@
 -- A method whose words begin as those of `NameOf`: what it has as arguments and parameters.
-use Rattle.std.proofs.Common.{◌≡◌, ℕ, zero, suc, ◌+◌, ◌-◌, ◌<◌, ◌≤◌, Bool, true, false, if◌then◌else◌, List, [], ◌∷◌, ◌++◌, length, map, sum, Option, Some, None, Ok, Err, refl, sym, ap, subst, ◌∙◌, codes, append_assoc, bytes_eq, inl, inr, arith}
+use Rattle.std.proofs.Common.{◌≡◌, ℕ, suc, ◌+◌, ◌-◌, ◌≤◌, true, false, List, [], ◌∷◌, ◌++◌, map, sum, Some, Ok, refl, sym, ap, subst, ◌∙◌, codes, append_assoc, bytes_eq, inl, inr, arith}
 use Rattle.std.proofs.lemmas.Bool.{true≢false, cases_Bool}
 use Rattle.std.proofs.lemmas.Slice.Eq.{bytes_eq-Decides}
 use Rattle.il_text.specs.declared.token.TokenKind.{TokenKind}
 use Rattle.il_text.specs.declared.token.TokenKind.TheVariants as token
-use Rattle.il_text.specs.Spelling.{spells, is_word, is_variable, is_number, is_text, is_mark}
+use Rattle.il_text.specs.Spelling.{spells, is_variable, is_number, is_text, is_mark}
 use Rattle.il_model.specs.declared.written.WrittenType.{WrittenType}
 use Rattle.il_model.specs.declared.written.WrittenType.TheVariants as w
-use Rattle.il_model.specs.declared.written.WrittenParam.{WrittenParam}
 use Rattle.il_model.specs.declared.written.WrittenMethodRef.{WrittenMethodRef}
 use Rattle.il_model.specs.Lexemes.{Lexeme, Is, IsName, is_among, name_at}
-use Rattle.il_model.specs.Words.{type_words, type_keywords}
+use Rattle.il_model.specs.Words.{type_keywords}
 use Rattle.il_model.specs.Bounds.{written_positions, types_of_params}
-use Rattle.il_model.specs.Types.{IsType, keyword, named, IsResult, value, AreTypes, AreParams, AreArguments, no_arguments, arguments}
+use Rattle.il_model.specs.Types.{IsType, keyword, named, value, AreTypes, AreParams, AreArguments}
 use Rattle.il_model.specs.Spellings.{plain_name}
-use Rattle.il_parse.specs.Reading.{Read, Reader, sees, expect}
+use Rattle.il_parse.specs.Reading.{Reader, sees, expect}
 use Rattle.il_parse.specs.Types.{read_type, read_type_within, read_result, read_params, read_enclosed, read_arguments, inner_types_from}
 use Rattle.il_parse.specs.Members.{read_method_name, read_method_ref}
-use Rattle.il_parse.proofs.Steps.{AreSpelled, spelled-append, Took, value_of, rest_of, stepped, next_of}
+use Rattle.il_parse.proofs.Steps.{AreSpelled, value_of, rest_of, stepped, next_of}
 use Rattle.il_parse.proofs.TypesSound.{positions-named, positions-string}
 use Rattle.il_parse.proofs.ListsSound.{IsBoth}
-use Rattle.il_parse.proofs.PartsSound.{arguments_sound, enclosed_sound, Enclosed, params_sound}
-use Rattle.il_parse.proofs.TypesComplete.{sees-is, sees-other, after-is, after-other, expect-is, type_goes, args_goes, InnerGoes}
-use Rattle.il_parse.proofs.ListsComplete.{Ends, ends_at, type_complete}
+use Rattle.il_parse.proofs.PartsSound.{arguments_sound, enclosed_sound, params_sound}
+use Rattle.il_parse.proofs.TypesComplete.{sees-other, after-other, expect-is, type_goes, args_goes, InnerGoes}
+use Rattle.il_parse.proofs.ListsComplete.{ends_at, type_complete}
 use Rattle.il_parse.proofs.PartsComplete.{result_complete, method_name_complete}
 
 word_only : (k : TokenKind) (bytes : List ℕ) → spells k bytes ≡ true → is_variable bytes ≡ false → is_number bytes ≡ false → is_text bytes ≡ false → is_mark bytes ≡ false → k ≡ token.Word
@@ -47,7 +46,9 @@ plain_is bytes s no_object no_string e =
       | inl hit ↦ different (codes "object") s no_object (rw hit at e)
       | inr miss ↦ elim (cases_Bool (bytes_eq bytes (codes "System.String"))) [
         | inl hit ↦ different (codes "string") s no_string (rw (miss, hit) at e)
-        | inr other ↦ rw (miss, other) at e ] ]
+        | inr other ↦ rw (miss, other) at e
+      ]
+    ]
 
 -- a type that is written as `string` or as `System.String`
 record StringType (l : Lexeme) : Type 0 where
@@ -61,27 +62,30 @@ string_type l s e =
       | inl hit ↦ different (codes "object") (codes "string") refl (rw hit at e)
       | inr miss ↦ elim (cases_Bool (bytes_eq l.bytes (codes "System.String"))) [
         | inl hit ↦
-          let same : l.bytes ≡ codes "System.String" = (bytes_eq-Decides l.bytes (codes "System.String")).0 hit in
-          record {
-            kind = w.Named (name_at l) [];
-            is = named (codes "void" ∷ codes "instance" ∷ []) l (w.Named (name_at l) [])
-                (record { word = word_kind l (codes "System.String") same s refl refl refl refl; free = ap (is_among (type_keywords ++ codes "void" ∷ codes "instance" ∷ [])) same }) refl;
-            small = omega (arith, positions-named (name_at l) []);
-          }
+            let same : l.bytes ≡ codes "System.String" = (bytes_eq-Decides l.bytes (codes "System.String")).0 hit in
+            record {
+              kind = w.Named (name_at l) [];
+              is = named (codes "void" ∷ codes "instance" ∷ []) l (w.Named (name_at l) [])
+                  (record { word = word_kind l (codes "System.String") same s refl refl refl refl; free = ap (is_among (type_keywords ++ codes "void" ∷ codes "instance" ∷ [])) same }) refl;
+              small = omega (arith, positions-named (name_at l) []);
+            }
         | inr other ↦
-          let same : l.bytes ≡ codes "string" = rw (miss, other) at e in
-          record {
-            kind = w.String;
-            is = keyword (codes "void" ∷ codes "instance" ∷ []) l w.String (4, omega arith, ap (λ b. (b, w.String)) (sym same));
-            small = omega (arith, positions-string);
-          } ] ]
+            let same : l.bytes ≡ codes "string" = rw (miss, other) at e in
+            record {
+              kind = w.String;
+              is = keyword (codes "void" ∷ codes "instance" ∷ []) l w.String (4, omega arith, ap (λ b. (b, w.String)) (sym same));
+              small = omega (arith, positions-string);
+            }
+      ]
+    ]
 
 not_instance : (l : Lexeme) (ws : List Lexeme) → plain_name l.bytes ≡ codes "string" → sees (codes "instance") (l ∷ ws) ≡ false
 unfolding sees
 not_instance l ws e =
     elim (cases_Bool (bytes_eq (codes "instance") l.bytes)) [
       | inl hit ↦ different (codes "instance") (codes "string") refl (ap plain_name ((bytes_eq-Decides (codes "instance") l.bytes).0 hit) ∙ e)
-      | inr miss ↦ miss ]
+      | inr miss ↦ miss
+    ]
 
 -- the method that these words begin, read up to this place
 pub record NameOfRead (rest : List Lexeme) (m : WrittenMethodRef) (mid : List Lexeme) : Type 0 where
@@ -111,11 +115,11 @@ name_of_read l0 l1 l2 l3 rest m mid s p0 p1 p2 p3 e =
     let n1 : IsName (type_keywords ++ []) l1 = record { word = word_kind l1 (codes "Rt.Types") b1 s.1.0 refl refl refl refl; free = ap (is_among (type_keywords ++ [])) b1 } in
     let n3 : IsName (codes ".cctor" ∷ []) l3 = record { word = word_kind l3 (codes "NameOf") b3 s.1.1.1.0 refl refl refl refl; free = ap (is_among (codes ".cctor" ∷ [])) b3 } in
     let e1 = next_of (read_result (l0 ∷ w1)) _ _ (Some k.kind) w1
-        (result_complete (codes "instance" ∷ []) (l0 ∷ []) (Some k.kind) w1 (value (l0 ∷ []) k.kind k.is) (k.small, tt) (s.0, tt)
-            (ends_at (codes "Rt.Types") l1 w2 b1 refl refl)) (rw (no_instance, after-other (codes "instance") (l0 ∷ w1) no_instance) at e) in
+    (result_complete (codes "instance" ∷ []) (l0 ∷ []) (Some k.kind) w1 (value (l0 ∷ []) k.kind k.is) (k.small, tt) (s.0, tt)
+    (ends_at (codes "Rt.Types") l1 w2 b1 refl refl)) (rw (no_instance, after-other (codes "instance") (l0 ∷ w1) no_instance) at e) in
     let e2 = next_of (read_type w1) _ _ (w.Named (name_at l1) []) w2
-        (type_complete [] (l1 ∷ []) (w.Named (name_at l1) []) w2 (named [] l1 (w.Named (name_at l1) []) n1 refl) (omega (arith, positions-named (name_at l1) [])) (s.1.0, tt)
-            (ends_at (codes "::") l2 w3 b2 refl refl)) e1 in
+    (type_complete [] (l1 ∷ []) (w.Named (name_at l1) []) w2 (named [] l1 (w.Named (name_at l1) []) n1 refl) (omega (arith, positions-named (name_at l1) [])) (s.1.0, tt)
+    (ends_at (codes "::") l2 w3 b2 refl refl)) e1 in
     let e3 = next_of (expect (codes "::") w2) _ _ tt w3 (expect-is (codes "::") l2 w3 b2) e2 in
     let e4 = next_of (read_method_name w3) _ _ (name_at l3) rest (method_name_complete l3 rest n3) e3 in
     stepped (read_arguments rest) _ m mid e4 (λ args ws5 a5 f5.
@@ -145,9 +149,10 @@ args_unique a xs g u b ys h v are_a s_a same_g are_b s_b same_h e =
     let inner : ℕ → Reader (WrittenType × ℕ) = λ more. read_type_within n more in
     let goes : InnerGoes inner n = λ left front t back is p f r k. type_goes n [] left front t back is p f r k in
     let one = args_goes inner n goes (suc n) [] n a xs (g ∷ u) are_a s_a (sees-other (codes "<") (codes ">") g u same_g refl) (sees-other (codes "[]") (codes ">") g u same_g refl)
-        (sees-other (codes ",") (codes ">") g u same_g refl) (omega arith) (omega arith) (omega arith) in
+    (sees-other (codes ",") (codes ">") g u same_g refl) (omega arith) (omega arith) (omega arith) in
     let two = args_goes inner n goes (suc n) [] n b ys (h ∷ v) are_b s_b (sees-other (codes "<") (codes ">") h v same_h refl) (sees-other (codes "[]") (codes ">") h v same_h refl)
-        (sees-other (codes ",") (codes ">") h v same_h refl) (omega arith) (omega arith) (omega arith) in
-    let both = sym one ∙ ap (inner_types_from inner (suc n) [] n) e ∙ two in
-    (ap (λ q. q.0) (value_of (xs, n - sum (map written_positions xs)) (ys, n - sum (map written_positions ys)) (g ∷ u) (h ∷ v) both),
-    rest_of (xs, n - sum (map written_positions xs)) (ys, n - sum (map written_positions ys)) (g ∷ u) (h ∷ v) both)
+    (sees-other (codes ",") (codes ">") h v same_h refl) (omega arith) (omega arith) (omega arith) in
+    let both = sym one ∙ ap (inner_types_from inner (suc n) [] n) e ∙ two in (
+      ap (λ q. q.0) (value_of (xs, n - sum (map written_positions xs)) (ys, n - sum (map written_positions ys)) (g ∷ u) (h ∷ v) both),
+      rest_of (xs, n - sum (map written_positions xs)) (ys, n - sum (map written_positions ys)) (g ∷ u) (h ∷ v) both,
+    )

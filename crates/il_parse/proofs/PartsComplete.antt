@@ -58,6 +58,10 @@ param_some : (ws : List Lexeme) (p : WrittenParam) → IsParam ws p → 1 ≤ le
 param_some ws p (by_value same t is) = type_some [] ws t is
 param_some ws p (pointer same front l t split is h) = omega (arith, ap length split, length-append front (l ∷ []))
 
+pub params_some : (ws : List Lexeme) (ps : List WrittenParam) → Separated (codes ",") IsParam ws ps → 1 ≤ length ws
+params_some ws ps (last same p is) = param_some ws p is
+params_some ws ps (next same front back l p qs split is h t) = omega (arith, ap length split, length-append front (l ∷ back))
+
 -- a parameter doesn't begin with a mark
 param_first : (front : List Lexeme) (p : WrittenParam) (back : List Lexeme) → IsParam front p → AreSpelled front → sees (codes ")") (front ++ back) ≡ false
 param_first front p back (by_value ws t is) s = type_first (codes ")") refl refl [] ws t back is s
