@@ -1,5 +1,5 @@
 -- Entries collected one by one are the list with each once.
-use Rattle.std.proofs.Common.{◌≡◌, ◌∙◌, ℕ, suc, ◌+◌, ◌-◌, ◌<◌, Bool, true, false, cond, flat_map, Some, None, Option, option_to_list, arith, List, [], ◌∷◌, ◌++◌, fold, subst, sym, ap, refl}
+use Rattle.std.proofs.Common.{◌≡◌, ◌∙◌, ℕ, suc, ◌+◌, ◌-◌, ◌<◌, Bool, true, false, cond, flat_map, Some, None, Option, option_to_list, arith, List, [], ◌∷◌, ◌++◌, fold, sym, ap, refl}
 use Rattle.std.proofs.lemmas.List.{append_assoc}
 use Rattle.std.proofs.lemmas.List.Sums.{fold-append}
 use Rattle.il_model.specs.declared.entry.Entry.{Entry}

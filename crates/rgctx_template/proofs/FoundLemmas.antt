@@ -1,5 +1,5 @@
 -- What the look-up of members finds is what the functions give.
-use Rattle.std.proofs.Common.{◌≡◌, ◌∙◌, ℕ, zero, suc, ◌+◌, ◌<◌, ◌≤◌, Bool, true, false, cond, not, nat_lt, List, [], ◌∷◌, length, take, slice_get, bytes_eq, ◌==◌, ◌&&◌, Some, None, Option, option_and_then, subst, sym, ap, refl, arith}
+use Rattle.std.proofs.Common.{◌≡◌, ◌∙◌, ℕ, zero, suc, ◌+◌, ◌<◌, Bool, true, false, cond, not, nat_lt, List, [], ◌∷◌, length, take, slice_get, bytes_eq, ◌==◌, ◌&&◌, Some, None, Option, option_and_then, subst, sym, ap, refl, arith}
 use Rattle.std.specs.Bool.{Decides, beq}
 use Rattle.std.specs.List.{find, position, position_or_len}
 use Rattle.std.proofs.lemmas.Bool.Decides.{nat_tests, Decides-and, Decides-like, Decides-eqb}
@@ -18,7 +18,7 @@ use Rattle.il_model.specs.declared.method.MethodDef.{MethodDef}
 use Rattle.il_model.specs.declared.member.MRef.{MRef}
 use Rattle.il_model.specs.declared.member.FRef.{FRef}
 use Rattle.il_model.specs.declared.program.Program.{Program}
-use Rattle.il_model.specs.Find.{class_of, takes_object, IsMethodNamed, IsFieldNamed, HasMethod, NoneBefore, IsFirstAt, HoldsForNone, IsFirst, FindsMethod, FirstOrNone, FindsField, FindsFieldIn, most_fields}
+use Rattle.il_model.specs.Find.{class_of, takes_object, IsMethodNamed, IsFieldNamed, HasMethod, NoneBefore, FindsMethod, FindsField, FindsFieldIn, most_fields}
 use Rattle.il_model.specs.Found.{same_param, same_result, is_method_named, is_field_named, method_at, is_named_in, own_method, own_field, method_found, field_found}
 
 module _ {A : Type 0} (test : A → Bool) (P : A → Type 0) (each : (x : A) → Decides (test x) (P x)) where

@@ -1,6 +1,5 @@
 -- A list of entries as it grows: each entry is put at the end unless it stands there already. This project's own.
-use Rattle.std.specs.Prelude.{◌≡◌, fold, List, [], ◌∷◌, ◌++◌, if◌then◌else◌, Result, OnOk}
-use Rattle.mn_outside.specs.declared.outside.NoMemory.{NoMemory}
+use Rattle.std.specs.Prelude.{fold, List, [], ◌∷◌, ◌++◌, if◌then◌else◌}
 use Rattle.il_model.specs.declared.entry.Entry.{Entry}
 use Rattle.il_model.specs.Entries.{is_listed}
 

@@ -1,6 +1,7 @@
 //! The templates of methods and classes: what their code fetches from a runtime generic context, in order.
 #![tactic(auto)]
 
+mod catalogue;
 mod collecting;
 mod found;
 mod members;
@@ -9,5 +10,6 @@ mod templating;
 #[cfg(test)]
 mod tests;
 
+pub use catalogue::Catalogue;
 pub use il_model::{Def, Entry};
 pub use templating::template;
