@@ -1,2 +1,4 @@
 pub mod FoundLemmas
 pub mod CollectedLemmas
+pub mod FedLemmas
+pub mod KnownLemmas

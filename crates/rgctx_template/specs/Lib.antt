@@ -1,5 +1,7 @@
 pub mod Mentioned
 pub mod Collected
+pub mod Fed
+pub mod SameEntry
 pub mod Admitted
 pub mod Written
 pub mod GotEntries

@@ -1,80 +1,73 @@
 // A list of entries without repeats.
-ghost use Rattle.std.specs.Prelude.{◌≡◌, ◌↔◌, IsTrue, OnOk};
-ghost use Rattle.std.specs.Cmp.Lexicographic.{pointwise};
-ghost use Rattle.type_tree.specs.Same.{is_same};
-ghost use Rattle.il_model.specs.Entries.{same_entry, is_listed, size_entries, type_entries};
+ghost use Rattle.std.specs.Prelude.{◌≡◌, [], IfOk, OnOk};
+ghost use Rattle.il_model.specs.Entries.{size_entries, type_entries};
 ghost use Rattle.il_model.specs.declared.entry.Entry.TheVariants as entry;
 ghost use Rattle.rgctx_template.specs.Collected.{added, collected};
 
 use crate::found::is_reference;
+use crate::known::Known;
 use il_model::{Entry, Program};
+use indexmap::IndexSet;
 use mn_outside::NoMemory;
 use sqlite_items::Items;
 use std::alloc::Global;
-use type_tree::{TExpr, same_all};
+use std::marker::Model;
+use type_tree::TExpr;
 
-fn same_type(kind: &TExpr, other: &TExpr) -> bool
-    ensures { result ≡ is_same kind.now other.now }
-{
-    kind.same(other)
+/// Entries in order, each once. Contracts see the list.
+#[derive(Drop)]
+pub(crate) struct Entries {
+    known: IndexSet<Known>,
 }
 
-fn same_types(kinds: &[TExpr], others: &[TExpr]) -> bool
-    ensures { result ≡ pointwise is_same kinds.now others.now }
-{
-    same_all(kinds, others)
+impl Model for Entries {
+    ghost use Rattle.std.specs.Prelude.{List, map};
+    ghost use Rattle.std.specs.Coded.{coded_list};
+    ghost use Rattle.il_model.specs.declared.entry.Entry.{Entry};
+    ghost use Rattle.il_model.specs.contracts.entry.Entry.{the_row};
+
+    ghost Value = { List Entry };
+
+    ghost coded = { coded_list the_row.coded };
+
+    ghost view = { λ e. map (λ k. k.entry) e.known.keys };
 }
 
-fn same_entry(first: &Entry, second: &Entry) -> bool
-    ensures { result ≡ same_entry first.now second.now }
-{
-    match (first, second) {
-        (Entry::Kind(kind), Entry::Kind(other)) => same_type(kind, other),
-        (Entry::Method(number, class, args), Entry::Method(other, owner, others)) => {
-            *number == *other
-                && same_type(class, owner)
-                && same_types(args.as_slice(), others.as_slice())
+impl Entries {
+    pub(crate) fn new(alloc: Global) -> Entries
+        ensures { result ≡ [] }
+    {
+        Entries {
+            known: IndexSet::new(alloc),
         }
-        (Entry::Size(kind), Entry::Size(other)) => same_type(kind, other),
-        (Entry::Extent(kind), Entry::Extent(other)) => same_type(kind, other),
-        (Entry::Offset(kind, place), Entry::Offset(other, number)) => {
-            same_type(kind, other) && *place == *number
-        }
-        (Entry::Slot(number), Entry::Slot(other)) => *number == *other,
-        (
-            Entry::Kind(_)
-            | Entry::Method(_, _, _)
-            | Entry::Size(_)
-            | Entry::Extent(_)
-            | Entry::Offset(_, _)
-            | Entry::Slot(_),
-            _,
-        ) => false,
     }
-}
 
-fn is_listed(listed: &[Entry], entry: &Entry) -> bool
-    ensures { result ≡ is_listed listed.now entry.now }
-{
-    listed.iter().any(|known| same_entry(entry, known))
+    /// The entries as a list.
+    pub(crate) fn into_items(self, alloc: Global) -> Result<Items<Entry>, NoMemory>
+        ensures { IfOk result (λ es. es ≡ self) }
+    {
+        let mut entries = Items::new(alloc);
+        for known in self.known {
+            let Ok(()) = entries.push(known.entry) else {
+                return Err(NoMemory);
+            };
+        }
+        Ok(entries)
+    }
 }
 
 /// Puts an entry at the end of the list, unless it is listed.
-pub(crate) fn add(entries: &mut Items<Entry>, entry: Entry) -> Result<(), NoMemory>
+pub(crate) fn add(entries: &mut Entries, entry: Entry) -> Result<(), NoMemory>
     ensures { OnOk result (entries.new ≡ added entries.old entry) }
 {
-    if is_listed(entries.as_slice(), &entry) {
-        return Ok(());
+    match entries.known.insert(Known { entry }) {
+        Ok(_) => Ok(()),
+        Err(_) => Err(NoMemory),
     }
-    entries.push(entry).map_err(|_| NoMemory)
 }
 
 /// Adds the kind of a type.
-pub(crate) fn add_kind(
-    alloc: Global,
-    entries: &mut Items<Entry>,
-    kind: &TExpr,
-) -> Result<(), NoMemory>
+pub(crate) fn add_kind(alloc: Global, entries: &mut Entries, kind: &TExpr) -> Result<(), NoMemory>
     ensures { OnOk result (entries.new ≡ added entries.old (entry.Kind kind.now)) }
 {
     let kind = kind.copy(alloc)?;
@@ -85,7 +78,7 @@ pub(crate) fn add_kind(
 pub(crate) fn add_size(
     alloc: Global,
     program: &Program,
-    entries: &mut Items<Entry>,
+    entries: &mut Entries,
     kind: &TExpr,
 ) -> Result<(), NoMemory>
     ensures { OnOk result (entries.new ≡ collected entries.old (size_entries program.now kind.now)) }
@@ -101,7 +94,7 @@ pub(crate) fn add_size(
 pub(crate) fn add_type(
     alloc: Global,
     program: &Program,
-    entries: &mut Items<Entry>,
+    entries: &mut Entries,
     kind: &TExpr,
 ) -> Result<(), NoMemory>
     ensures { OnOk result (entries.new ≡ collected entries.old (type_entries program.now kind.now)) }

@@ -4,6 +4,8 @@
 mod catalogue;
 mod collecting;
 mod found;
+mod hashing;
+mod known;
 mod members;
 mod mention;
 mod templating;

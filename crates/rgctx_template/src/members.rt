@@ -4,7 +4,7 @@ ghost use Rattle.il_model.specs.Entries as spec;
 ghost use Rattle.il_model.specs.declared.entry.Entry.TheVariants as entry;
 ghost use Rattle.rgctx_template.specs.Collected.{added, collected};
 
-use crate::collecting::{add, add_kind, add_size, add_type};
+use crate::collecting::{Entries, add, add_kind, add_size, add_type};
 use crate::found::{arguments_of, field_found, has_slot_at, method_found};
 use il_model::{Entry, FRef, MRef, Program};
 use mn_outside::NoMemory;
@@ -27,7 +27,7 @@ fn vector_of(alloc: Global, kind: &TExpr) -> Result<TExpr, NoMemory>
 pub(crate) fn add_vector(
     alloc: Global,
     program: &Program,
-    entries: &mut Items<Entry>,
+    entries: &mut Entries,
     kind: &TExpr,
 ) -> Result<(), NoMemory>
     ensures { OnOk result (entries.new ≡ collected entries.old (spec.vector_entries program.now kind.now)) }
@@ -47,7 +47,7 @@ fn field_type(alloc: Global, field: &FRef) -> Result<TExpr, NoMemory>
 // Adds the place of a field.
 fn add_offset(
     alloc: Global,
-    entries: &mut Items<Entry>,
+    entries: &mut Entries,
     class: &TExpr,
     place: u16,
 ) -> Result<(), NoMemory>
@@ -61,7 +61,7 @@ fn add_offset(
 pub(crate) fn add_field(
     alloc: Global,
     program: &Program,
-    entries: &mut Items<Entry>,
+    entries: &mut Entries,
     field: &FRef,
 ) -> Result<(), NoMemory>
     ensures { OnOk result (entries.new ≡ collected entries.old (spec.field_entries program.now field.now)) }
@@ -78,7 +78,7 @@ pub(crate) fn add_field(
 // Adds the method with this number.
 fn add_method(
     alloc: Global,
-    entries: &mut Items<Entry>,
+    entries: &mut Entries,
     named: &MRef,
     number: u16,
 ) -> Result<(), NoMemory>
@@ -93,7 +93,7 @@ fn add_method(
 pub(crate) fn add_call(
     alloc: Global,
     program: &Program,
-    entries: &mut Items<Entry>,
+    entries: &mut Entries,
     named: &MRef,
 ) -> Result<(), NoMemory>
     ensures { OnOk result (entries.new ≡ collected entries.old (spec.call_entries program.now named.now)) }
@@ -108,7 +108,7 @@ pub(crate) fn add_call(
 pub(crate) fn add_virtual_call(
     alloc: Global,
     program: &Program,
-    entries: &mut Items<Entry>,
+    entries: &mut Entries,
     named: &MRef,
 ) -> Result<(), NoMemory>
     ensures { OnOk result (entries.new ≡ collected entries.old (spec.callvirt_entries program.now named.now)) }
@@ -126,7 +126,7 @@ pub(crate) fn add_virtual_call(
 pub(crate) fn add_constrained(
     alloc: Global,
     program: &Program,
-    entries: &mut Items<Entry>,
+    entries: &mut Entries,
     kind: &TExpr,
     named: &MRef,
 ) -> Result<(), NoMemory>
@@ -137,7 +137,7 @@ pub(crate) fn add_constrained(
 }
 
 // Adds the words of an instance.
-fn add_extent(alloc: Global, entries: &mut Items<Entry>, class: &TExpr) -> Result<(), NoMemory>
+fn add_extent(alloc: Global, entries: &mut Entries, class: &TExpr) -> Result<(), NoMemory>
     ensures { OnOk result (entries.new ≡ added entries.old (entry.Extent class.now)) }
 {
     let class = class.copy(alloc)?;
@@ -148,7 +148,7 @@ fn add_extent(alloc: Global, entries: &mut Items<Entry>, class: &TExpr) -> Resul
 pub(crate) fn add_new(
     alloc: Global,
     program: &Program,
-    entries: &mut Items<Entry>,
+    entries: &mut Entries,
     named: &MRef,
 ) -> Result<(), NoMemory>
     ensures { OnOk result (entries.new ≡ collected entries.old (spec.new_entries program.now named.now)) }

@@ -4,7 +4,7 @@ ghost use Rattle.il_model.specs.Entries as spec;
 ghost use Rattle.il_model.specs.declared.entry.Def.TheVariants as def;
 ghost use Rattle.rgctx_template.specs.Collected.{collected};
 
-use crate::collecting::{add_kind, add_type};
+use crate::collecting::{Entries, add_kind, add_type};
 use crate::found::method_at;
 use crate::members::{add_call, add_constrained, add_field, add_new, add_vector, add_virtual_call};
 use crate::mention::{Mention, mention_of};
@@ -14,12 +14,7 @@ use sqlite_items::Items;
 use std::alloc::Global;
 
 // Adds what an instruction fetches.
-fn add_op(
-    alloc: Global,
-    program: &Program,
-    entries: &mut Items<Entry>,
-    op: &Op,
-) -> Result<(), NoMemory>
+fn add_op(alloc: Global, program: &Program, entries: &mut Entries, op: &Op) -> Result<(), NoMemory>
     ensures { OnOk result (entries.new ≡ collected entries.old (spec.entries_of program.now op.now)) }
 {
     match mention_of(op) {
@@ -38,7 +33,7 @@ fn add_op(
 fn add_code(
     alloc: Global,
     program: &Program,
-    entries: &mut Items<Entry>,
+    entries: &mut Entries,
     code: &[Op],
 ) -> Result<(), NoMemory>
     ensures { OnOk result (entries.new ≡ collected entries.old (flat_map (spec.entries_of program.now) code.now)) }
@@ -49,7 +44,7 @@ fn add_code(
     Ok(())
 }
 
-fn add_clause(alloc: Global, entries: &mut Items<Entry>, clause: &Clause) -> Result<(), NoMemory>
+fn add_clause(alloc: Global, entries: &mut Entries, clause: &Clause) -> Result<(), NoMemory>
     ensures { OnOk result (entries.new ≡ collected entries.old (spec.clause_entries clause.now)) }
 {
     match &clause.sort {
@@ -58,11 +53,7 @@ fn add_clause(alloc: Global, entries: &mut Items<Entry>, clause: &Clause) -> Res
     }
 }
 
-fn add_clauses(
-    alloc: Global,
-    entries: &mut Items<Entry>,
-    clauses: &[Clause],
-) -> Result<(), NoMemory>
+fn add_clauses(alloc: Global, entries: &mut Entries, clauses: &[Clause]) -> Result<(), NoMemory>
     ensures { OnOk result (entries.new ≡ collected entries.old (flat_map spec.clause_entries clauses.now)) }
 {
     for clause in clauses {
@@ -74,10 +65,10 @@ fn add_clauses(
 fn template_of_body(alloc: Global, program: &Program, body: &Body) -> Result<Items<Entry>, NoMemory>
     ensures { IfOk result (λ es. es ≡ spec.once [] (spec.mentions_of program.now body.now)) }
 {
-    let mut entries = Items::new(alloc);
+    let mut entries = Entries::new(alloc);
     add_code(alloc, program, &mut entries, body.code.as_slice())?;
     add_clauses(alloc, &mut entries, body.clauses.as_slice())?;
-    Ok(entries)
+    entries.into_items(alloc)
 }
 
 fn template_of_method(
@@ -110,7 +101,7 @@ fn template_of_class(alloc: Global, count: u16) -> Result<Items<Entry>, NoMemory
 
 /// The template of a method or a class: what the instructions of the method's body fetch, in order, then
 /// the kinds of its clauses, each entry once; or the slots of the class, as many as its definition says. A
-/// member that isn't found gives no entry. The time is that of the mentions times the entries.
+/// member that isn't found gives no entry.
 pub fn template(alloc: Global, program: &Program, definition: Def) -> Result<Items<Entry>, NoMemory>
     ensures { IfOk result (λ es. es ≡ spec.template_of program.now definition) }
 {

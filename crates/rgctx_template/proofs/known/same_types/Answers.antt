@@ -4,7 +4,7 @@ use Rattle.std.proofs.lemmas.Bool.Decides.{same_from_decides}
 use Rattle.std.proofs.lemmas.Slice.Eq.{slice_eq-Decides}
 use Rattle.type_tree.specs.Same.{is_same}
 use Rattle.type_tree.proofs.SameLemmas.{is_same-Decides}
-use Rattle.rgctx_template.proofs.collecting.same_types.Goals as goal
+use Rattle.rgctx_template.proofs.known.same_types.Goals as goal
 
 pub returns : goal.returns
 returns c =
