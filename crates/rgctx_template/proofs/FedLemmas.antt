@@ -5,7 +5,6 @@ use Rattle.std.proofs.lemmas.List.Sums.{fold-append}
 use Rattle.std.proofs.lemmas.List.Folds.{flat_map-map}
 use Rattle.type_tree.specs.declared.tree.Head.{Head}
 use Rattle.type_tree.specs.declared.tree.TExpr.{TExpr}
-use Rattle.type_tree.specs.declared.tree.TNode.{TNode}
 use Rattle.type_tree.specs.declared.tree.TNode.TheVariants.{Node, ClassVar, MethodVar}
 use Rattle.type_tree.specs.Tree.{top_of}
 use Rattle.type_tree.proofs.TreeLemmas.{tree_of-is, folded-node, folded-class_var, folded-method_var}

@@ -1,5 +1,5 @@
 -- What of an entry goes into its hash: a number for each variant and head, and the numbers in it, in order. This project's own.
-use Rattle.std.specs.Prelude.{List, ◌++◌, map, flat_map}
+use Rattle.std.specs.Prelude.{◌++◌, flat_map}
 use Rattle.std.specs.Hash as fed
 use Rattle.std.specs.Hash.{HashWrites}
 use Rattle.type_tree.specs.declared.tree.Head.{Head}

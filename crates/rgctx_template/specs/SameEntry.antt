@@ -1,5 +1,5 @@
 -- The test of equality of entries answers true exactly for equal entries, as the laws of their keys say. This project's own.
-use Rattle.std.proofs.Common.{◌≡◌, ◌==◌, ◌&&◌, Bool, true, false, List, ap, refl}
+use Rattle.std.proofs.Common.{◌≡◌, ◌==◌, ◌&&◌, List, ap, refl}
 use Rattle.std.specs.Bool.{Decides}
 use Rattle.std.specs.Cmp.Lexicographic.{pointwise}
 use Rattle.std.proofs.lemmas.Bool.Decides.{Decides-eqb, Decides-and, Decides-like}
