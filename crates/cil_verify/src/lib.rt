@@ -1,6 +1,14 @@
 //! The verifier: which programs are accepted, and the first place at which another is refused.
 #![tactic(auto)]
 
+mod equality;
 mod fault;
+mod fitting;
+mod joining;
+mod kinds;
+mod operands;
 
 pub use fault::{VerifyCause, VerifyFault, Where};
+pub use fitting::fits;
+pub use joining::{is_assignable_type, joined};
+pub use kinds::stack_of;
