@@ -56,12 +56,7 @@ pub(crate) fn refers_to(
 }
 
 // Whether the first is a reference type that is assignable to the second.
-fn is_narrower(
-    alloc: Global,
-    program: &Program,
-    from: &TExpr,
-    to: &TExpr,
-) -> Result<bool, NoMemory>
+fn is_narrower(alloc: Global, program: &Program, from: &TExpr, to: &TExpr) -> Result<bool, NoMemory>
     requires { HasTypes program.now }
     ensures { IfOk result (λ answer. answer ≡ is_reference program.now from.now && is_assignable program.now from.now to.now) }
 {
@@ -100,7 +95,11 @@ fn is_object_class(alloc: Global, kind: &TExpr) -> bool
 }
 
 // The bounds of a variable; any other type has none.
-fn bounds_of<'a>(program: &'a Program, method: &'a MethodDef, kind: &TExpr) -> &'a [TExpr]
+pub(crate) fn bounds_of<'a>(
+    program: &'a Program,
+    method: &'a MethodDef,
+    kind: &TExpr,
+) -> &'a [TExpr]
     ensures { result.now ≡ bounds_of (scope_of program.now method.now) kind.now }
 {
     match kind.top() {

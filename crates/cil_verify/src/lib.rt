@@ -6,9 +6,11 @@ mod fault;
 mod fitting;
 mod joining;
 mod kinds;
+mod objects;
 mod operands;
 
 pub use fault::{VerifyCause, VerifyFault, Where};
 pub use fitting::fits;
 pub use joining::{is_assignable_type, joined};
 pub use kinds::stack_of;
+pub use objects::{fits_place, is_object_of, is_vector, reference_to, stack_of_place};
