@@ -1,2 +1,4 @@
 pub mod FindLemmas
+pub mod StackLemmas
 pub mod Examples
+pub mod RefusalLemmas

@@ -8,9 +8,11 @@ mod joining;
 mod kinds;
 mod objects;
 mod operands;
+mod stacks;
 
 pub use fault::{VerifyCause, VerifyFault, Where};
 pub use fitting::fits;
 pub use joining::{is_assignable_type, joined};
 pub use kinds::stack_of;
 pub use objects::{fits_place, is_object_of, is_vector, reference_to, stack_of_place};
+pub use stacks::are_assignable;
