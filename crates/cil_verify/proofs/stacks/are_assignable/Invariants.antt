@@ -1,4 +1,4 @@
-use Rattle.std.proofs.Common.{◌≡◌, length, drop}
+use Rattle.std.proofs.Common.{◌≡◌, drop}
 use Rattle.cil_verify.specs.Places.{view_of}
 use Rattle.cil_verify.specs.Joins.{are_assignable}
 use Rattle.cil_verify.proofs.stacks.are_assignable.Given as goal
