@@ -4,3 +4,4 @@ pub mod AssignableLemmas
 pub mod ListLemmas
 pub mod ListingLemmas
 pub mod HierarchyLemmas
+pub mod ClosureLemmas

@@ -73,11 +73,11 @@ module _ (test : TExpr → Bool) where
   all_pass [] each = refl
   all_pass (y ∷ xs) each = ap (λ b. b && list_all test xs) (each y (inl refl)) ∙ all_pass xs (λ x r. each x (inr r))
 
-true_of_two : (a b : Bool) → (a || b) ≡ true → (a ≡ true) ⊎ (b ≡ true)
+pub true_of_two : (a b : Bool) → (a || b) ≡ true → (a ≡ true) ⊎ (b ≡ true)
 true_of_two true b e = inl refl
 true_of_two false b e = inr e
 
-or_true : (a b : Bool) → b ≡ true → (a || b) ≡ true
+pub or_true : (a b : Bool) → b ≡ true → (a || b) ≡ true
 or_true true b e = refl
 or_true false b e = e
 

@@ -4,8 +4,10 @@
 mod ascent;
 mod assignability;
 mod classes;
+mod closure;
 mod equality;
 mod implementing;
+mod steps;
 #[cfg(test)]
 mod tests;
 
