@@ -5,3 +5,4 @@ pub mod ListLemmas
 pub mod ListingLemmas
 pub mod HierarchyLemmas
 pub mod ClosureLemmas
+pub mod LimitedLemmas

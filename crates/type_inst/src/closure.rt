@@ -96,7 +96,7 @@ fn put_one(
 }
 
 // Whether a tree has too many positions.
-fn is_large(kind: &TExpr) -> bool
+pub(crate) fn is_large(kind: &TExpr) -> bool
     ensures { result ≡ is_large kind.now }
 {
     positions(kind) > 256

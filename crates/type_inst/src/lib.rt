@@ -7,6 +7,7 @@ mod classes;
 mod closure;
 mod equality;
 mod implementing;
+mod limited;
 mod steps;
 #[cfg(test)]
 mod tests;
