@@ -6,3 +6,6 @@ pub mod ListingLemmas
 pub mod HierarchyLemmas
 pub mod ClosureLemmas
 pub mod LimitedLemmas
+pub mod SearchLemmas
+pub mod DefinitionLemmas
+pub mod SignatureLemmas

@@ -1,13 +1,19 @@
-//! What is asked of types, with and without variables: bases, interfaces and assignability.
+//! What is asked of types, with and without variables: bases, interfaces, assignability and slots.
 #![tactic(auto)]
 
 mod ascent;
 mod assignability;
 mod classes;
 mod closure;
+mod definitions;
 mod equality;
 mod implementing;
 mod limited;
+mod matching;
+mod method_trees;
+mod placing;
+mod signatures;
+mod slotting;
 mod steps;
 #[cfg(test)]
 mod tests;
@@ -16,3 +22,4 @@ pub use ascent::bases;
 pub use assignability::assignable;
 pub use il_model::{Layout, Limit, MethodTree};
 pub use implementing::interfaces;
+pub use placing::slots;

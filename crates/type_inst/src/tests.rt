@@ -2,7 +2,7 @@
 // by the verifier alone, so calls that ask for them are tried here on one without.
 ghost use Rattle.std.specs.Prelude.{◌≡◌, [], IfOk};
 
-use crate::{assignable, bases, interfaces};
+use crate::{assignable, bases, interfaces, slots};
 use il_model::{ClassDef, ClassKind, Program};
 use mn_outside::Name;
 use sqlite_items::Items;
@@ -82,5 +82,14 @@ fn assigns_vectors(rt: HostRuntime) -> Result<(), Fail> {
     assert!(rt; assignable(alloc, &program, &rows, &rows)?);
     assert!(rt; !assignable(alloc, &program, &int32, &object)?);
     assert!(rt; !assignable(alloc, &program, &rows, &numbers)?);
+    Ok(())
+}
+
+#[test]
+fn lists_no_slots(rt: HostRuntime) -> Result<(), Fail> {
+    let alloc = rt.alloc();
+    let program = program(alloc, Items::new(alloc));
+    let found = slots(alloc, &program, &TExpr::plain(alloc, Head::Int32))?;
+    assert_eq!(rt; found.len(), 0);
     Ok(())
 }
