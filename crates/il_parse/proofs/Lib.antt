@@ -23,3 +23,7 @@ mod ReadLemmas
 mod TypeLemmas
 mod TableLemmas
 mod OperandLemmas
+mod CallLemmas
+mod LineLemmas
+mod BodyLemmas
+mod ClassLemmas

@@ -15,3 +15,5 @@ pub mod NamedBodies
 pub mod SameTypes
 pub mod NamedClasses
 pub mod Answer
+pub mod Lines
+pub mod Calls

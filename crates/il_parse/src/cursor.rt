@@ -1,5 +1,5 @@
 // The tokens of a text, and how far they are read.
-ghost use Rattle.std.specs.Prelude.{◌≡◌, IfOk, IfSome, length, drop, map, option_map, slice_range};
+ghost use Rattle.std.specs.Prelude.{◌≡◌, ◌-◌, take, IfOk, IfSome, length, drop, map, option_map, slice_range};
 ghost use Rattle.std.specs.Str.{IsAscii};
 ghost use Rattle.il_text.specs.declared.token.TokenKind.TheVariants.{Number};
 ghost use Rattle.il_text.specs.Spelling.{IsWithinLimit};
@@ -199,6 +199,18 @@ impl<'a> Cursor<'a> {
         Cursor {
             text: self.text,
             tokens: self.tokens,
+        }
+    }
+
+    /// The tokens in front of the last ones, of which there are so many.
+    #[tactic(auto, using(crate::proofs::CallLemmas::readable_front, crate::proofs::CallLemmas::lexemes_front))]
+    pub fn until(&self, last: usize) -> Cursor<'a>
+        ensures { result ≡ take (length self.now - last) self.now }
+    {
+        let (front, _) = self.tokens.split_at(self.tokens.len().saturating_sub(last));
+        Cursor {
+            text: self.text,
+            tokens: front,
         }
     }
 

@@ -2,10 +2,14 @@
 #![tactic(auto)]
 
 mod answer;
+mod body;
+mod calls;
+mod classes;
 mod cursor;
 mod fault;
 mod forms;
 mod library;
+mod lines;
 mod literals;
 mod members;
 mod mnemonics;
