@@ -1,12 +1,12 @@
 -- Reading classes, by cases on the lexemes.
 use Rattle.std.proofs.Common.{◌≡◌, ℕ, suc, Bool, true, false, if◌then◌else◌, not, List, [], ◌∷◌, ◌++◌, drop, length, Option, Some, None, Ok, Err, refl}
-use Rattle.std.specs.Prelude.{codes, ◌&&◌}
+use Rattle.std.specs.Prelude.{codes, ◌&&◌, is_none}
 use Rattle.il_model.specs.declared.class.ClassKind.{ClassKind}
 use Rattle.il_model.specs.declared.class.ClassKind.TheVariants as kind
 use Rattle.il_model.specs.declared.written.WrittenClass.{WrittenClass}
 use Rattle.il_model.specs.Lexemes.{Lexeme, is_among}
 use Rattle.il_parse.specs.declared.fault.ParseCause.TheVariants as cause
-use Rattle.il_parse.specs.Reading.{and_then, stuck_fault, fault_at, sees, place_of_first, read_name_but}
+use Rattle.il_parse.specs.Reading.{Read, and_then, refuse, stuck, stuck_fault, fault_at, sees, place_of_first, read_name_but}
 use Rattle.il_parse.specs.Cursor.{is_word_at, bytes_of_first, read_any}
 use Rattle.il_parse.specs.Classes.{read_kind, read_class, classes_from, class_room, method_room}
 
@@ -58,28 +58,24 @@ class_room_is = refl
 pub method_room_is : method_room ≡ 16372
 method_room_is = refl
 
--- at the end of the text
-pub classes_end : (n left : ℕ) (found : List WrittenClass) (ws : List Lexeme) → None ≡ place_of_first ws → classes_from n left found ws ≡ Ok (found, ws)
+-- a class and those behind it, or the end of the text
+pub classes_turn : (n left : ℕ) (found : List WrittenClass) (ws : List Lexeme) →
+    classes_from (suc n) left found ws ≡
+    (if is_none (place_of_first ws) then Ok (found, ws) else and_then (read_class left ws) (λ p. classes_from n p.1 (found ++ p.0 ∷ [])))
 unfolding classes_from
-classes_end n left found [] e = refl
-classes_end n left found (l ∷ ws) e = absurd cc
+classes_turn n left found [] = refl
+classes_turn n left found (l ∷ ws) = refl
 
--- a class and those behind it
-pub classes_step : (n left : ℕ) (found : List WrittenClass) (ws : List Lexeme) (at : ℕ) → Some at ≡ place_of_first ws →
-    classes_from (suc n) left found ws ≡ and_then (read_class left ws) (λ p. classes_from n p.1 (found ++ p.0 ∷ []))
-unfolding classes_from
-classes_step n left found [] at e = absurd cc
-classes_step n left found (l ∷ ws) at e = refl
+class_or_stuck : (b : Bool) (l : Lexeme) (ws : List Lexeme) →
+    (let r : Read (List WrittenClass) = if b then refuse cause.TooMany (l ∷ ws) else stuck (l ∷ ws) in
+    r ≡ (if b then Err (fault_at (l ∷ ws) cause.TooMany) else Err (stuck_fault (l ∷ ws))))
+class_or_stuck true l ws = refl
+class_or_stuck false l ws = refl
 
--- a class where none may come
-pub classes_past : (left : ℕ) (found : List WrittenClass) (ws : List Lexeme) → sees (codes ".class") ws ≡ true → classes_from 0 left found ws ≡ Err (fault_at ws cause.TooMany)
+-- where no class may come any more
+pub classes_last : (left : ℕ) (found : List WrittenClass) (ws : List Lexeme) →
+    classes_from 0 left found ws ≡
+    (if is_none (place_of_first ws) then Ok (found, ws) else (if sees (codes ".class") ws then Err (fault_at ws cause.TooMany) else Err (stuck_fault ws)))
 unfolding classes_from sees
-classes_past left found [] e = absurd cc
-classes_past left found (l ∷ ws) e = rw e refl
-
--- what is no class
-pub classes_stuck : (left : ℕ) (found : List WrittenClass) (ws : List Lexeme) (at : ℕ) → Some at ≡ place_of_first ws → sees (codes ".class") ws ≡ false →
-    classes_from 0 left found ws ≡ Err (stuck_fault ws)
-unfolding classes_from sees
-classes_stuck left found [] at e miss = absurd cc
-classes_stuck left found (l ∷ ws) at e miss = rw miss refl
+classes_last left found [] = refl
+classes_last left found (l ∷ ws) = class_or_stuck _ l ws

@@ -305,7 +305,6 @@ fn read_class(
 }
 
 // The classes of a text up to its end, of which so many may come with so many methods.
-#[tactic(auto, using(crate::proofs::ClassLemmas::classes_end, crate::proofs::ClassLemmas::classes_past, crate::proofs::ClassLemmas::classes_stuck))]
 fn classes_within(
     alloc: Global,
     cursor: &mut Cursor<'_>,
