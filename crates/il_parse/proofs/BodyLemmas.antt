@@ -1,5 +1,5 @@
 -- Reading bodies, by cases on the lexemes.
-use Rattle.std.proofs.Common.{◌≡◌, ℕ, Bool, true, false, List, [], ◌∷◌, drop, Option, Some, None, Ok, Err, refl}
+use Rattle.std.proofs.Common.{◌≡◌, Bool, true, false, List, [], ◌∷◌, drop, None, Ok, Err, refl}
 use Rattle.std.specs.Prelude.{codes}
 use Rattle.il_model.specs.Lexemes.{Lexeme}
 use Rattle.il_parse.specs.declared.fault.ParseCause.TheVariants as cause

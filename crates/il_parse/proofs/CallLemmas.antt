@@ -1,12 +1,11 @@
 -- Calls of the library, word by word.
-use Rattle.std.proofs.Common.{◌≡◌, ℕ, zero, suc, Bool, true, false, if◌then◌else◌, List, [], ◌∷◌, ◌++◌, ◌+◌, ◌-◌, ◌<◌, ◌≤◌, get_or, drop, take, length, map, Option, Some, None, refl, sym, bytes_eq}
+use Rattle.std.proofs.Common.{◌≡◌, ℕ, zero, suc, Bool, true, false, List, [], ◌∷◌, ◌++◌, ◌+◌, ◌-◌, ◌<◌, ◌≤◌, get_or, drop, take, length, map, Some, None, refl, sym, bytes_eq}
 use Rattle.std.proofs.lemmas.List.{length-map, take-map, drop_more, drop_all}
 use Rattle.std.specs.Prelude.{is_some, ◌&&◌}
 use Rattle.std.specs.List.{find, AllByRecursion}
 use Rattle.il_text.specs.declared.token.Token.{Token}
 use Rattle.il_model.specs.declared.written.WrittenType.{WrittenType}
 use Rattle.il_model.specs.declared.written.WrittenParam.{WrittenParam}
-use Rattle.il_model.specs.declared.form.Form.{Form}
 use Rattle.il_model.specs.Lexemes.{Lexeme, lexeme_of}
 use Rattle.il_model.specs.Forms.{word_of}
 use Rattle.il_model.specs.Spellings.{plain_name}

@@ -1,7 +1,6 @@
 -- Reading classes, by cases on the lexemes.
-use Rattle.std.proofs.Common.{◌≡◌, ℕ, suc, Bool, true, false, if◌then◌else◌, not, List, [], ◌∷◌, ◌++◌, drop, length, Option, Some, None, Ok, Err, refl}
+use Rattle.std.proofs.Common.{◌≡◌, ℕ, suc, Bool, true, false, if◌then◌else◌, not, List, [], ◌∷◌, ◌++◌, drop, Ok, Err, refl}
 use Rattle.std.specs.Prelude.{codes, ◌&&◌, is_none}
-use Rattle.il_model.specs.declared.class.ClassKind.{ClassKind}
 use Rattle.il_model.specs.declared.class.ClassKind.TheVariants as kind
 use Rattle.il_model.specs.declared.written.WrittenClass.{WrittenClass}
 use Rattle.il_model.specs.Lexemes.{Lexeme, is_among}

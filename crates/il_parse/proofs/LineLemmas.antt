@@ -1,17 +1,17 @@
 -- Lines of a body, by cases on the lexemes and on what they begin with.
-use Rattle.std.proofs.Common.{◌≡◌, ℕ, suc, ◌-◌, ◌==◌, Bool, true, false, not, if◌then◌else◌, List, [], ◌∷◌, ◌++◌, drop, Option, Some, None, Ok, Err, refl}
+use Rattle.std.proofs.Common.{◌≡◌, ℕ, suc, ◌-◌, ◌==◌, Bool, true, false, not, if◌then◌else◌, List, [], ◌∷◌, ◌++◌, drop, Some, None, Ok, Err, refl}
 use Rattle.std.specs.Prelude.{codes, ◌&&◌}
 use Rattle.il_model.specs.declared.written.WrittenLine.{WrittenLine}
 use Rattle.il_model.specs.declared.written.WrittenLine.TheVariants as line
 use Rattle.il_model.specs.declared.written.WrittenInstr.{WrittenInstr}
-use Rattle.il_model.specs.Lexemes.{Lexeme, name_at}
+use Rattle.il_model.specs.Lexemes.{Lexeme}
 use Rattle.il_parse.specs.declared.fault.ParseCause.TheVariants as cause
-use Rattle.il_parse.specs.Reading.{Read, Reader, ◌>>=◌, and_then, pure, stuck_fault, fault_at, sees, place_of_first}
+use Rattle.il_parse.specs.Reading.{Read, and_then, stuck_fault, fault_at, sees, place_of_first}
 use Rattle.il_parse.specs.Cursor.{is_word_at, bytes_of_first, read_any}
 use Rattle.il_parse.specs.Mnemonics.{Mnemonic, mnemonic_of}
 use Rattle.il_parse.specs.Operands.{read_instr}
 use Rattle.il_parse.specs.Bodies.{LineStart, no_line, labels, instructs, left_out, unknown, start_of_word, line_start, read_line, lines_from}
-use Rattle.il_parse.specs.Lines.{start_of_line, label_line, instr_line, line_by, one_line, left_behind, lines_behind}
+use Rattle.il_parse.specs.Lines.{start_of_line, label_line, instr_line, line_by, one_line, lines_behind}
 
 pub starts_none : (ws : List Lexeme) → is_word_at ws ≡ false → start_of_line ws ≡ no_line
 unfolding line_start
@@ -63,7 +63,7 @@ behind_instr n left found (Err f) = refl
 behind_word : (n left : ℕ) (found : List WrittenLine) (none : Bool) (l : Lexeme) (ws : List Lexeme) (says : Mnemonic) →
     (if none then Err (fault_at (l ∷ ws) cause.TooMany) else and_then (read_instr l.at says ws) (λ i. lines_from n (left - 1) (found ++ line.Instr i ∷ []))) ≡
     and_then (if none then Err (fault_at (l ∷ ws) cause.TooMany) else and_then (read_instr l.at says ws) (λ i back. Ok (Some (line.Instr i), back)))
-        (λ one. lines_behind n left found one)
+    (λ one. lines_behind n left found one)
 behind_word n left found true l ws says = refl
 behind_word n left found false l ws says = behind_instr n left found (read_instr l.at says ws)
 

@@ -7,7 +7,6 @@ use Rattle.il_parse.specs.declared.fault.ParseCause.TheVariants as cause
 use Rattle.il_parse.specs.declared.lines.Start.{Start}
 use Rattle.il_parse.specs.declared.lines.Start.TheVariants as start
 use Rattle.il_parse.specs.Reading.{Reader, ◌>>=◌, pure, stuck, refuse}
-use Rattle.il_parse.specs.Cursor.{read_any}
 use Rattle.il_parse.specs.Mnemonics.{Mnemonic}
 use Rattle.il_parse.specs.Operands.{read_instr}
 use Rattle.il_parse.specs.Bodies.{LineStart, no_line, labels, instructs, left_out, unknown, line_start, lines_from}

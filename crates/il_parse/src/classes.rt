@@ -19,10 +19,12 @@ use std::alloc::Global;
 
 // A text may have so many classes and methods beside those of the library.
 const CLASS_ROOM: usize = 4083;
+
 const METHOD_ROOM: usize = 16_372;
 
 // A class and a method have at most so many type variables.
 const MOST_CLASS_VARS: usize = 3;
+
 const MOST_METHOD_VARS: usize = 2;
 
 // The words that the grammar quotes.
@@ -262,10 +264,7 @@ fn read_base(
 
 // The interfaces, if any are written.
 #[tactic(auto, unfolding(crate::specs::Classes::read_interfaces))]
-fn read_interfaces(
-    alloc: Global,
-    cursor: &mut Cursor<'_>,
-) -> Result<Items<WrittenType>, ReadError>
+fn read_interfaces(alloc: Global, cursor: &mut Cursor<'_>) -> Result<Items<WrittenType>, ReadError>
     ensures { Reads (spec.read_interfaces cursor.old) result cursor.new }
 {
     if !cursor.eat(b"implements") {

@@ -1,4 +1,4 @@
-use Rattle.std.proofs.Common.{◌≡◌, codes, rules, arith}
+use Rattle.std.proofs.Common.{codes, rules, arith}
 use Rattle.std.proofs.lemmas.Grind.{common_steps}
 use Rattle.il_parse.specs.Reading.{many_from, read_many}
 use Rattle.il_parse.specs.Bodies.{read_clause}

@@ -1,4 +1,4 @@
-use Rattle.std.proofs.Common.{◌≡◌, ◌-◌, [], codes}
+use Rattle.std.proofs.Common.{◌≡◌, ◌-◌, codes}
 use Rattle.il_parse.specs.Reading.{many_from, read_many}
 use Rattle.il_parse.specs.Bodies.{read_clause}
 use Rattle.il_parse.proofs.body.read_clauses.Given as goal
