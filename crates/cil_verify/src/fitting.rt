@@ -129,7 +129,7 @@ fn bounds_in(var: Option<&VarDef>) -> &[TExpr]
 }
 
 // Whether the operand stands on the stack as a value of the type does.
-fn stands_as(kind: &TExpr, operand: &StackType) -> bool
+pub(crate) fn stands_as(kind: &TExpr, operand: &StackType) -> bool
     ensures { result ≡ stands_as kind.now operand.now }
 {
     match operand {

@@ -1,6 +1,7 @@
 //! The verifier: which programs are accepted, and the first place at which another is refused.
 #![tactic(auto)]
 
+mod admitting;
 mod equality;
 mod fault;
 mod fitting;
@@ -11,6 +12,7 @@ mod objects;
 mod operands;
 mod stacks;
 
+pub use admitting::{are_numbers, is_called_on, may_be_read, may_equal, may_exceed, may_test};
 pub use fault::{VerifyCause, VerifyFault, Where};
 pub use fitting::fits;
 pub use joining::{is_assignable_type, joined};

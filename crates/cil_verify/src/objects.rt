@@ -66,7 +66,7 @@ pub fn is_object_of(
     }
 }
 
-fn is_struct(program: &Program, kind: &TExpr) -> bool
+pub(crate) fn is_struct(program: &Program, kind: &TExpr) -> bool
     ensures { result ≡ is_struct_class (class_of program.now kind.now) }
 {
     match class_of(program, kind) {
