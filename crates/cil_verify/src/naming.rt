@@ -1,13 +1,14 @@
 // The members that an instruction names, and whether they may be named so.
 ghost use Rattle.std.specs.Prelude.{◌≡◌, ◌&&◌, not, codes, is_none, bytes_eq};
 ghost use Rattle.std.specs.Option.{option_copied};
+ghost use Rattle.il_model.specs.declared.method.MethodDef.{MethodDef};
 ghost use Rattle.il_model.specs.Find.{class_of, takes_object};
 ghost use Rattle.il_model.specs.Found.{method_found, field_found};
 ghost use Rattle.il_model.specs.Entries.{has_slot};
 ghost use Rattle.il_model.specs.Layouts.{fields_in};
 ghost use Rattle.il_model.specs.ClassRules.{is_abstract_shape};
-ghost use Rattle.cil_verify.specs.Rows.{row_of};
-ghost use Rattle.cil_verify.specs.Members.{called, field_named, is_shape_of, may_be_called, is_instance, is_constructor, is_abstract_kind, is_abstract_class, may_be_made, is_static_field, is_instance_field, names_well_in};
+ghost use Rattle.cil_verify.specs.Places.{view_of};
+ghost use Rattle.cil_verify.specs.Members.{called, field_named, is_shape_of, may_be_called, is_instance, is_constructor, is_abstract_kind, is_abstract_class, may_be_made, is_static_field, is_instance_field, names_well};
 
 use il_model::{
     ClassKind, FRef, FieldDef, MRef, MethodDef, Op, Program, Shape, class_of, find_field,
@@ -18,7 +19,7 @@ use type_tree::TExpr;
 
 /// Whether the member that an instruction names is there, and may be named so. No memory is taken.
 pub fn names_well(program: &Program, op: &Op) -> bool
-    ensures { result ≡ names_well_in program.now (row_of op.now) }
+    ensures { (method : MethodDef) → result ≡ names_well (view_of program.now method) op.now }
 {
     match op {
         Op::Call(m) => names_callable(program, m),
