@@ -38,7 +38,7 @@ of_top t number (ClassVar n) is e = cc
 of_top t number (MethodVar n) is e = cc
 
 -- arguments are put without a change of the class
-number_kept : (t part : TExpr) (number : ℕ) → class_number_of part ≡ Some number → class_number_of (with_args_of t part) ≡ Some number
+pub number_kept : (t part : TExpr) (number : ℕ) → class_number_of part ≡ Some number → class_number_of (with_args_of t part) ≡ Some number
 number_kept t part number e =
     let named : Names part number = of_top part number (top_of part) refl e in
     ap class_number_of (ap (with_args_of t) named.is ∙ substituted-node (arguments_of t) [] (head.Class number) named.parts)
@@ -53,7 +53,7 @@ numbered_if t P no_number None is holds = cc
 numbered_if t P no_number (Some number) is holds = record { number = number; is = is }
 
 module _ (program : Program) where
-  interface_numbered : (t : TExpr) → is_interface program t ≡ true → Numbered t
+  pub interface_numbered : (t : TExpr) → is_interface program t ≡ true → Numbered t
   interface_numbered t holds =
       numbered_if t (λ o. is_interface_class (option_and_then (λ number. slice_get program.classes number) o)) refl (class_number_of t) refl holds
 

@@ -9,3 +9,4 @@ pub mod LimitedLemmas
 pub mod SearchLemmas
 pub mod DefinitionLemmas
 pub mod SignatureLemmas
+pub mod NumberingLemmas
