@@ -1,4 +1,4 @@
-// Each call once, its answer compared. A program that has classes is shown to meet the rules on classes
+// Each call but `implementation` once, its answer compared. A program that has classes is shown to meet the rules on classes
 // by the verifier alone, so calls that ask for them are tried here on one without.
 ghost use Rattle.std.specs.Prelude.{◌≡◌, [], IfOk};
 
