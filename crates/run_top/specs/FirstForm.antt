@@ -1,9 +1,9 @@
 -- Texts of the first form: one class with one static method, which adds int32 constants and prints them. This project's own.
 use Rattle.std.specs.Prelude.{◌≡◌, ℕ, ◌==◌, not, List, [], ◌∷◌, codes, Some, IsTrue, ℤ}
 use Rattle.std.specs.List.{list_all}
-use Rattle.il_model.specs.declared.first.FirstOp.{FirstOp}
-use Rattle.il_model.specs.declared.first.FirstOp.TheVariants.{Push, Add, Print, Ret}
-use Rattle.il_model.specs.WellFormed.{IsWellFormed}
+use Rattle.run_top.specs.declared.first.FirstOp.{FirstOp}
+use Rattle.run_top.specs.declared.first.FirstOp.TheVariants.{Push, Add, Print, Ret}
+use Rattle.run_top.specs.WellFormed.{IsWellFormed}
 use Rattle.il_text.specs.declared.token.TokenKind.TheVariants.{Word, Number, Mark}
 use Rattle.il_text.specs.declared.token.Token.{Token}
 use Rattle.il_text.specs.Tokens.{AreTokens}

@@ -2,7 +2,7 @@
 use Rattle.std.specs.Prelude.{◌≡◌, ◌≢◌, ◌≤◌, ◌+◌, ◌*◌, ◌⊎◌, ℕ, List, Option, Some, None, ⊤, length}
 use Rattle.mn_outside.specs.Causes.{Held, Holds, Rose}
 use Rattle.interaction.specs.History.{Legal}
-use Rattle.il_model.specs.declared.first.FirstOp.{FirstOp}
+use Rattle.run_top.specs.declared.first.FirstOp.{FirstOp}
 use Rattle.store_object.specs.Replay.{store}
 use Rattle.run_top.specs.declared.record.RunRecord.{RunRecord}
 use Rattle.run_top.specs.FirstForm.{IsFirstForm}

@@ -1,7 +1,7 @@
 // From a text to its program.
 ghost use Rattle.std.specs.Prelude.{◌≡◌, ◌≢◌, ◌∷◌, [], ◌<◌, ◌↔◌, ℕ, ℤ, List, IsTrue, IfSome, IfNone, IfOk, codes, length, ◌==◌, not};
 ghost use Rattle.std.specs.List.{list_all};
-ghost use Rattle.il_model.specs.declared.first.FirstOp.{FirstOp};
+ghost use Rattle.run_top.specs.declared.first.FirstOp.{FirstOp};
 ghost use Rattle.run_top.specs.FirstWords.{Lexeme, lexeme, lexemes, is_class_name, is_method_name};
 ghost use Rattle.run_top.specs.FirstForm.{IsPush, IsOp, AreOps, IsProgram, IsFirstForm};
 

@@ -1,7 +1,7 @@
 // A whole run of an image.
 ghost use Rattle.std.specs.Prelude.{◌≡◌, ◌+◌, ◌*◌, ◌≤◌, ◌++◌, [], ◌∷◌, IfOk, OnOk, length};
 ghost use Rattle.interaction.specs.History.{Legal};
-ghost use Rattle.il_model.specs.WellFormed.{IsWellFormed};
+ghost use Rattle.run_top.specs.WellFormed.{IsWellFormed};
 ghost use Rattle.store_object.specs.Answer.{answer};
 ghost use Rattle.store_object.specs.Replay.{noted, replayed, store};
 ghost use Rattle.run_top.specs.Process.{begin, meaning, naming};

@@ -1,7 +1,7 @@
 use Rattle.std.proofs.Common.{◌≡◌, ◌∙◌, List, sym, subst}
 use Rattle.std.proofs.lemmas.Bool.{true≢false}
-use Rattle.il_model.specs.declared.first.FirstOp.{FirstOp}
-use Rattle.il_model.specs.WellFormed.{IsWellFormed}
+use Rattle.run_top.specs.declared.first.FirstOp.{FirstOp}
+use Rattle.run_top.specs.WellFormed.{IsWellFormed}
 use Rattle.run_top.specs.FirstWords.{lexemes}
 use Rattle.run_top.specs.FirstForm.{IsProgram}
 use Rattle.run_top.proofs.first_form.first_form.Goals as goal

@@ -1,5 +1,5 @@
 use Rattle.std.proofs.Common.{◌++◌, List, length}
-use Rattle.il_model.specs.declared.first.FirstOp.{FirstOp}
+use Rattle.run_top.specs.declared.first.FirstOp.{FirstOp}
 use Rattle.run_top.specs.FirstWords.{lexemes}
 use Rattle.run_top.specs.FirstForm.{AreOps}
 use Rattle.run_top.proofs.FirstLemmas.{HasOps}

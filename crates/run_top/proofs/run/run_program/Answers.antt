@@ -1,5 +1,5 @@
 use Rattle.std.proofs.Common.{◌≡◌, ap, ◌∙◌}
-use Rattle.il_model.proofs.Deepest.{finds}
+use Rattle.run_top.proofs.Deepest.{finds}
 use Rattle.run_top.specs.Code.{image_of}
 use Rattle.run_top.proofs.Clauses.{regular, legal, requests, all_executed, few, ends_so}
 use Rattle.run_top.proofs.run.run_program.Goals as goal

@@ -1,8 +1,8 @@
 -- The deepest stack, one instruction after another.
 use Rattle.std.proofs.Common.{◌≡◌, ◌≤◌, ℕ, ◌+◌, ◌-◌, List, [], ◌∷◌, max, arith}
-use Rattle.il_model.specs.declared.first.FirstOp.{FirstOp}
-use Rattle.il_model.specs.declared.first.FirstOp.TheVariants.{Push, Add, Print, Ret}
-use Rattle.il_model.specs.WellFormed.{FindsOperands, AllFind, IsFine, depth_after, deepest}
+use Rattle.run_top.specs.declared.first.FirstOp.{FirstOp}
+use Rattle.run_top.specs.declared.first.FirstOp.TheVariants.{Push, Add, Print, Ret}
+use Rattle.run_top.specs.WellFormed.{FindsOperands, AllFind, IsFine, depth_after, deepest}
 
 at_least : (depth : ℕ) (ops : List FirstOp) → depth ≤ deepest depth ops
 at_least depth [] = omega arith

@@ -1,8 +1,8 @@
 use Rattle.std.proofs.Common.{◌≡◌, ◌≤◌, ◌+◌, ◌∷◌, suc, pos, drop, drop-cons, get_or, arith, sym, ◌∙◌}
-use Rattle.il_model.specs.declared.first.FirstOp.TheVariants.{Push}
-use Rattle.il_model.specs.WellFormed.{depth_after}
-use Rattle.il_model.proofs.Deepest.{deepest_step, low_after}
-use Rattle.il_model.proofs.first.deepest.Goals as goal
+use Rattle.run_top.specs.declared.first.FirstOp.TheVariants.{Push}
+use Rattle.run_top.specs.WellFormed.{depth_after}
+use Rattle.run_top.proofs.Deepest.{deepest_step, low_after}
+use Rattle.run_top.proofs.first.deepest.Goals as goal
 
 pub loop-op-preserved : goal.loop-op-preserved
 loop-op-preserved c =

@@ -1,6 +1,6 @@
 // Programs of the first form: one static method that adds numbers and prints them.
 ghost use Rattle.std.specs.Prelude.{◌≡◌, ◌≤◌, ◌↔◌, IsTrue};
-ghost use Rattle.il_model.specs.WellFormed.{AllFind, FindsOperands, IsFine, IsWellFormed, deepest, depth_after};
+ghost use Rattle.run_top.specs.WellFormed.{AllFind, FindsOperands, IsFine, IsWellFormed, deepest, depth_after};
 
 /// One instruction of a method. The forms are those of ECMA-335, Partition III.
 #[derive(Clone, Copy, Debug, PartialEq, Eq)]
