@@ -1,5 +1,6 @@
 -- Bodies of the grammar are read as themselves.
 use Rattle.std.proofs.Common.{◌≡◌, ℕ, zero, suc, ◌≤◌, Bool, true, false, not, ◌&&◌, List, [], ◌∷◌, ◌++◌, length, map, flat_map, Option, Some, None, Ok, refl, sym, ap, subst, ◌∙◌, codes, append_assoc, append-nil, bytes_eq, arith}
+use Rattle.std.proofs.Math.Bool.{and-false}
 use Rattle.std.proofs.lemmas.Bool.{true≢false}
 use Rattle.std.proofs.lemmas.List.{length-append}
 use Rattle.il_text.specs.declared.token.TokenKind.{TokenKind}
@@ -161,10 +162,6 @@ mark_line token.Number bytes same s = refl
 mark_line token.Text bytes same s = refl
 mark_line token.Mark bytes same s = refl
 
-and_false : (b : Bool) → (b && false) ≡ false
-and_false true = refl
-and_false false = refl
-
 mark_ends : (r : Lexeme) (back : List Lexeme) → Is (codes "}") r → spells r.kind r.bytes ≡ true → EndsLines (r ∷ back)
 mark_ends r back same s = record {
   no_line = mark_line r.kind r.bytes same s;
@@ -174,7 +171,7 @@ mark_ends r back same s = record {
 
 try_ends : (l : Lexeme) (back : List Lexeme) → Is (codes ".try") l → EndsLines (l ∷ back)
 try_ends l back same = record {
-  no_line = ap (λ z. is_word_kind l.kind && not (bytes_eq (codes ".try") z)) same ∙ and_false (is_word_kind l.kind);
+  no_line = ap (λ z. is_word_kind l.kind && not (bytes_eq (codes ".try") z)) same ∙ and-false (is_word_kind l.kind);
   ends = ends_at (codes ".try") l back same refl refl;
   no_colon = sees-other (codes ":") (codes ".try") l back same refl;
 }

@@ -1,6 +1,6 @@
 -- The words of a call of the library spell a method.
 use Rattle.std.proofs.Common.{◌≡◌, ℕ, ◌≤◌, Bool, true, false, not, ◌&&◌, ◌||◌, List, [], ◌∷◌, ◌++◌, map, Option, Some, None, refl, sym, ap, ◌∙◌, codes, append_assoc, bytes_eq, inl, inr, arith, option_to_list, Contains}
-use Rattle.std.proofs.lemmas.Bool.{true≢false, cases_Bool, and_parts, or_cases}
+use Rattle.std.proofs.lemmas.Bool.{true≢false, cases_Bool, not-true, and_parts, or_cases}
 use Rattle.std.proofs.lemmas.Slice.Eq.{bytes_eq-Decides}
 use Rattle.std.specs.List.{list_any}
 use Rattle.il_text.specs.Spelling.{spells, is_variable, is_number, is_text, is_mark}
@@ -36,10 +36,6 @@ plain_passes p object text bytes s e is =
 abbrev is_free : List (List ℕ) → List ℕ → Bool
 is_free quoted bytes = not (is_variable bytes) && (not (is_number bytes) && (not (is_text bytes) && (not (is_mark bytes) && not (is_among quoted bytes))))
 
-flipped : (b : Bool) → not b ≡ true → b ≡ false
-flipped true e = absurd (true≢false (sym e))
-flipped false e = refl
-
 -- a lexeme that spells a word alone is a name
 free_name : (quoted : List (List ℕ)) (l : Lexeme) → spells l.kind l.bytes ≡ true → is_free quoted l.bytes ≡ true → IsName quoted l
 free_name quoted l s e =
@@ -48,8 +44,8 @@ free_name quoted l s e =
     let c = and_parts (not (is_text l.bytes)) _ b.1 in
     let d = and_parts (not (is_mark l.bytes)) _ c.1 in
     record {
-      word = word_only l.kind l.bytes s (flipped (is_variable l.bytes) a.0) (flipped (is_number l.bytes) b.0) (flipped (is_text l.bytes) c.0) (flipped (is_mark l.bytes) d.0);
-      free = flipped (is_among quoted l.bytes) d.1;
+      word = word_only l.kind l.bytes s (not-true (is_variable l.bytes) a.0) (not-true (is_number l.bytes) b.0) (not-true (is_text l.bytes) c.0) (not-true (is_mark l.bytes) d.0);
+      free = not-true (is_among quoted l.bytes) d.1;
     }
 
 -- a type of one position that a lexeme is

@@ -1,7 +1,7 @@
 -- What follows `call` is read as itself: a method, or the call of the library that is spelled so.
-use Rattle.std.proofs.Common.{◌≡◌, ℕ, Bool, true, false, not, ◌||◌, if◌then◌else◌, List, [], ◌∷◌, ◌++◌, find, option_map, Option, Some, None, Ok, refl, sym, ap, subst, ◌∙◌, codes, append_assoc, append-nil, inl, inr, slice_index_or}
+use Rattle.std.proofs.Common.{◌≡◌, ℕ, Bool, true, not, ◌||◌, if◌then◌else◌, List, [], ◌∷◌, ◌++◌, find, option_map, Option, Some, None, Ok, refl, sym, ap, subst, ◌∙◌, codes, append_assoc, append-nil, inl, inr, slice_index_or}
 use Rattle.std.specs.List.{list_all}
-use Rattle.std.proofs.lemmas.Bool.{true≢false, cases_Bool}
+use Rattle.std.proofs.lemmas.Bool.{true≢false, cases_Bool, not-true}
 use Rattle.il_model.specs.declared.form.Form.{Form}
 use Rattle.il_model.specs.declared.form.Form.TheVariants as form
 use Rattle.il_model.specs.declared.written.WrittenType.{WrittenType}
@@ -100,17 +100,13 @@ all_apart : list_all apart_from_name all_forms ≡ true
 unfolding apart_from_name
 all_apart = refl
 
-flipped : (b : Bool) → not b ≡ true → b ≡ false
-flipped true e = absurd (true≢false (sym e))
-flipped false e = refl
-
 not_whole : (words : List (List ℕ)) → begin_with name_words words ≡ true → (f : Form) → find (λ g. is_whole_call words (word_of g)) all_forms ≡ Some f → ⊥
 unfolding apart_from_name
 not_whole words begins f e =
     let hit = found_in (λ g. is_whole_call words (word_of g)) all_forms f e in
     let is = whole_call_is words (word_of f) hit.1 in
     let p : apart_from_name f ≡ true = every_form apart_from_name f all_apart in
-    true≢false (sym begins ∙ flipped (begin_with name_words words) (ap (λ z. not (has_no_end z) || not (begin_with name_words (words_before z))) (sym is) ∙ p))
+    true≢false (sym begins ∙ not-true (begin_with name_words words) (ap (λ z. not (has_no_end z) || not (begin_with name_words (words_before z))) (sym is) ∙ p))
 
 nth : ℕ → List (List ℕ) → List ℕ
 nth k ws = slice_index_or ws k []

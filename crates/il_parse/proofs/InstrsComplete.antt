@@ -1,7 +1,7 @@
 -- Instructions of the grammar are read as themselves.
 use Rattle.std.proofs.Common.{◌≡◌, ℕ, Bool, true, false, not, ◌&&◌, List, [], ◌∷◌, ◌++◌, Some, None, Ok, refl, sym, ap, subst, ◌∙◌, codes, bytes_eq, inl, inr, Contains}
 use Rattle.std.specs.List.{AllByRecursion, list_all}
-use Rattle.std.proofs.lemmas.Bool.{true≢false, cases_Bool, and_parts}
+use Rattle.std.proofs.lemmas.Bool.{true≢false, cases_Bool, not-true, and_parts}
 use Rattle.std.proofs.lemmas.Slice.Eq.{bytes_eq-Decides}
 use Rattle.il_text.specs.declared.token.TokenKind.TheVariants as token
 use Rattle.il_text.specs.Spelling.{spells, is_variable, is_number, is_text, is_mark}
@@ -64,10 +64,6 @@ meant_alone bytes says (meant_short f c free) = all_contains (λ (row : List ℕ
 meant_alone bytes says (meant_whole row c same small) =
     ap is_alone (sym same) ∙ all_contains (λ (r : Shortened). is_alone r.word ≡ true) shortened row whole_lone c
 
-flipped : (b : Bool) → not b ≡ true → b ≡ false
-flipped true e = absurd (true≢false (sym e))
-flipped false e = refl
-
 -- a lexeme that spells the word of an instruction is a word
 pub says_word : (l : Lexeme) (says : Mnemonic) → mnemonic_of l.bytes ≡ Some says → spells l.kind l.bytes ≡ true → l.kind ≡ token.Word
 says_word l says e s =
@@ -75,7 +71,7 @@ says_word l says e s =
     let a = and_parts (not (is_variable l.bytes)) _ alone in
     let b = and_parts (not (is_number l.bytes)) _ a.1 in
     let c = and_parts (not (is_text l.bytes)) (not (is_mark l.bytes)) b.1 in
-    word_only l.kind l.bytes s (flipped (is_variable l.bytes) a.0) (flipped (is_number l.bytes) b.0) (flipped (is_text l.bytes) c.0) (flipped (is_mark l.bytes) c.1)
+    word_only l.kind l.bytes s (not-true (is_variable l.bytes) a.0) (not-true (is_number l.bytes) b.0) (not-true (is_text l.bytes) c.0) (not-true (is_mark l.bytes) c.1)
 
 -- a word that is none of an instruction's doesn't stand there
 pub says_other : (m : List ℕ) → mnemonic_of m ≡ None → (bytes : List ℕ) (says : Mnemonic) → mnemonic_of bytes ≡ Some says → bytes_eq m bytes ≡ false

@@ -2,6 +2,7 @@
 use Rattle.std.proofs.Common.{◌≡◌, ℕ, zero, suc, ◌+◌, ◌-◌, ◌≤◌, Bool, true, List, [], ◌∷◌, ◌++◌, length, map, flat_map, option_to_list, Ok, refl, sym, ap, subst, ◌∙◌, append_assoc, append-nil, arith, Contains, All}
 use Rattle.std.specs.List.{AllByRecursion}
 use Rattle.std.proofs.lemmas.List.{length-append}
+use Rattle.std.proofs.lemmas.List.Elements.{recursion_from_All}
 use Rattle.il_model.specs.declared.written.WrittenType.{WrittenType}
 use Rattle.il_model.specs.declared.written.WrittenBody.{WrittenBody}
 use Rattle.il_model.specs.declared.written.WrittenMethod.{WrittenMethod}
@@ -17,10 +18,6 @@ use Rattle.il_parse.proofs.ListsSound.{AreSmall}
 use Rattle.il_parse.proofs.MethodsSound.{MethodFine}
 use Rattle.il_parse.proofs.ListsComplete.{small-split}
 use Rattle.il_parse.proofs.ClassesComplete.{ClassFits, class_complete}
-
-all_recursion : {X : Type 0} (P : X → Type 0) (xs : List X) → All P xs → AllByRecursion P xs
-all_recursion P [] all = tt
-all_recursion P (x ∷ xs) all = (all 0 x (omega arith), all_recursion P xs (λ k d inside. all (suc k) d (omega (arith, inside))))
 
 all-split : {X : Type 0} (P : X → Type 0) (xs ys : List X) → AllByRecursion P (xs ++ ys) → AllByRecursion P xs × AllByRecursion P ys
 all-split P [] ys all = (tt, all)
@@ -69,7 +66,7 @@ method_fine : (plain_class : Bool) (m : WrittenMethod) → AreSmall (types_of_me
 method_fine plain_class m types small begins = record {
   small = types;
   vars = small.vars;
-  instrs = all_recursion (λ (b : WrittenBody). length (instrs_of b.lines) ≤ 16384) (option_to_list m.body) small.instrs;
+  instrs = recursion_from_All (λ (b : WrittenBody). length (instrs_of b.lines) ≤ 16384) (option_to_list m.body) small.instrs;
   begins = begins;
 }
 
@@ -109,7 +106,7 @@ pub program_complete : (ws : List Lexeme) (classes : List WrittenClass) → AreS
     read_program ws ≡ Ok classes
 unfolding read_program
 program_complete ws classes s is small fits =
-    let fine = classes_fine classes (all_recursion (λ (t : WrittenType). written_positions t ≤ 256) (flat_map types_of_class classes) small.types)
-    (all_recursion (λ (c : WrittenClass). length c.vars ≤ 3) classes small.vars) (all_recursion IsSmallMethod (all_methods classes) small.methods)
-    (all_recursion EntriesFit classes fits) in
+    let fine = classes_fine classes (recursion_from_All (λ (t : WrittenType). written_positions t ≤ 256) (flat_map types_of_class classes) small.types)
+    (recursion_from_All (λ (c : WrittenClass). length c.vars ≤ 3) classes small.vars) (recursion_from_All IsSmallMethod (all_methods classes) small.methods)
+    (recursion_from_All EntriesFit classes fits) in
     ap (λ r. outcome r) (classes_complete class_room method_room [] ws classes is fine s (omega (arith, small.classes_count)) (omega (arith, small.methods_count)))
