@@ -1,0 +1,5 @@
+pub mod SpellingLemmas
+pub mod NodeLaws
+pub mod ReadingLemmas
+pub mod QuietLemmas
+pub mod Opening

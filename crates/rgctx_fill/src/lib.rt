@@ -1,0 +1,14 @@
+//! The rule of the context words: what a node and an entry name, which words may stand together, and the readers.
+#![tactic(auto)]
+
+mod applying;
+pub mod laws;
+mod reading;
+mod rule;
+mod spelled;
+mod templating;
+#[cfg(test)]
+mod tests;
+
+pub use rule::Fits;
+pub use spelled::{NodeTemplate, NodeTree};

@@ -1,0 +1,3 @@
+// The readers, on words written by hand.
+mod forgetful;
+mod readers;
