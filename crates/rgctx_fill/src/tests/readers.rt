@@ -173,33 +173,46 @@ fn letters(alloc: Global, template: &NodeTemplate) -> Result<Vec<u8>, Fail> {
     Ok(text)
 }
 
-// Reads each node.
-fn read_all<W: Words<Fits>>(rt: HostRuntime, cat: &Catalogue, words: &mut W) -> Result<(), Fail> {
-    let alloc = rt.alloc();
+// The text and the number of what is read of a node.
+fn read<W: Words<Fits>>(
+    alloc: Global,
+    cat: &Catalogue,
+    words: &mut W,
+    node: u16,
+) -> Result<(Vec<u8>, u16), Fail>
+    requires { (0 < node) × (node < node_count) }
+{
     let names = names(alloc)?;
-    for (node, text, number) in READ {
-        let tree = node_tree(alloc, cat, words, node)?;
-        assert_eq!(rt; text_of(alloc, &tree, names.as_slice())?.as_slice(), text);
-        assert_eq!(rt; number_of(&tree), number);
-    }
-    Ok(())
+    let tree = node_tree(alloc, cat, words, node)?;
+    let number = number_of(&tree);
+    Ok((text_of(alloc, &tree, names.as_slice())?, number))
 }
 
 #[test]
 fn nodes_are_read(rt: HostRuntime) -> Result<(), Fail> {
     let alloc = rt.alloc();
     let program = program(alloc, Items::new(alloc), methods(alloc)?);
-    let (bodies, got) = (Items::new(alloc), Items::new(alloc));
+    let bodies = Items::new(alloc);
+    let got = Items::new(alloc);
     let cat = Catalogue {
         program: &program,
         bodies: &bodies,
         got: &got,
     };
     let mut plain = PlainWords::of(words_of(alloc)?);
-    read_all(rt, &cat, &mut plain)?;
     let zeros = PlainWords::new(alloc)?.into_words();
     let mut forgetful = Forgetful::of(words_of(alloc)?, zeros);
-    read_all(rt, &cat, &mut forgetful)
+    for (node, text, number) in READ {
+        assert!(rt; 0 < node);
+        assert!(rt; node < 4_096);
+        let known = read(alloc, &cat, &mut plain, node)?;
+        assert_eq!(rt; known.0.as_slice(), text);
+        assert_eq!(rt; known.1, number);
+        let seen = read(alloc, &cat, &mut forgetful, node)?;
+        assert_eq!(rt; seen.0.as_slice(), text);
+        assert_eq!(rt; seen.1, number);
+    }
+    Ok(())
 }
 
 #[test]
@@ -216,6 +229,8 @@ fn templates_are_read(rt: HostRuntime) -> Result<(), Fail> {
     };
     let mut words = PlainWords::of(words_of(alloc)?);
     for (node, wanted) in TEMPLATES {
+        assert!(rt; 0 < node);
+        assert!(rt; node < 4_096);
         let template = node_template(alloc, &cat, &mut words, node)?;
         assert_eq!(rt; letters(alloc, &template)?.as_slice(), wanted);
     }
