@@ -1,5 +1,5 @@
 -- The laws of words that fit, for the layers above: no two nodes in use spell the same, what they spell is admitted, and what entries, roots and links hold.
-use Rattle.std.proofs.Common.{◌≡◌, ◌≢◌, ◌⊎◌, ⊎_elim, ℕ, zero, suc, ◌+◌, ◌*◌, ◌<◌, ◌≤◌, ◌==◌, Bool, true, false, Option, Some, None, if◌then◌else◌, refl, sym, ap, ◌∙◌, subst, arith, eq-eqb}
+use Rattle.std.proofs.Common.{◌≡◌, ◌≢◌, ⊎_elim, ℕ, zero, suc, ◌+◌, ◌*◌, ◌<◌, ◌≤◌, ◌==◌, Bool, true, false, Option, Some, None, if◌then◌else◌, refl, sym, ap, ◌∙◌, subst, arith, eq-eqb}
 use Rattle.std.specs.Prelude.{nat_lt, slice_get, option_and_then, length, ◌++◌}
 use Rattle.std.proofs.lemmas.Bool.{cases_eq, cases_lt}
 use Rattle.std.proofs.lemmas.Bool.Decides.{nat_tests}
@@ -18,11 +18,11 @@ use Rattle.rgctx_fill.specs.Spelled.{spelled_below, spelled, type_in, naming_of}
 use Rattle.rgctx_fill.specs.Leaves.{IsLeaf, opening}
 use Rattle.rgctx_fill.specs.Nodes.{IsAdmittedType, IsAdmittedMethod, MayStand}
 use Rattle.rgctx_fill.specs.NamedValues.{entry_in, IsEntryWord, IsMethodValue, method_in_slot, IsSlotValue, IsValue, IsNamed, entry_at}
-use Rattle.rgctx_fill.specs.Fitting.{directory, use_of, IsRowOf, IsNext, IsEntry, AreFitting}
+use Rattle.rgctx_fill.specs.Fitting.{IsRowOf, IsNext, IsEntry, AreFitting}
 use Rattle.rgctx_fill.specs.Claims.{Allows}
 use Rattle.rgctx_fill.specs.SpelledLaws.{below-is, below-past, spelled-grows}
 use Rattle.rgctx_fill.specs.GrowthLaws.{stands-used}
-use Rattle.rgctx_fill.specs.ClaimLaws.{claim-grows, claim-keeps}
+use Rattle.rgctx_fill.specs.ClaimLaws.{claim-grows}
 use Rattle.rgctx_fill.proofs.SpellingLemmas.{is_named, Reads, from-reads, AreDifferent, same-word, TellsMore, reads-more}
 
 -- ---- no two nodes spell the same
@@ -62,9 +62,9 @@ module _ (cat : CatData) (at : ℕ → ℕ) (fits : AreFitting cat at) where
   same_place i j low high first second e = ⊎_elim
       (λ (is : i ≡ j). is)
       (λ (ne : i ≢ j). ⊎_elim
-          (λ (less : i < j). absurd (not_before i j less high first second e))
-          (λ (more : j ≤ i). absurd (not_before j i (omega arith) low second first (sym e)))
-          (cases_lt i j))
+      (λ (less : i < j). absurd (not_before i j less high first second e))
+      (λ (more : j ≤ i). absurd (not_before j i (omega arith) low second first (sym e)))
+      (cases_lt i j))
       (cases_eq i j)
 
   same_read : (i j n : ℕ) (s : NodeTree) → AreDifferent (spelled_below at n) → i ≤ n → j ≤ n → i < node_count → j < node_count → is_named s ≡ true → spelled at i ≡ s → spelled at j ≡ s → i ≡ j

@@ -1,7 +1,6 @@
 -- The words with which each run begins fit: the leaves alone.
-use Rattle.std.proofs.Common.{◌≡◌, ◌≢◌, ◌⊎◌, ⊎_elim, ℕ, zero, suc, ◌+◌, ◌-◌, ◌*◌, ◌/◌, ◌%◌, ◌^◌, ◌<◌, ◌≤◌, ◌==◌, Bool, true, false, ◌&&◌, List, [], ◌∷◌, ◌++◌, length, map, Option, Some, None, Ok, if◌then◌else◌, refl, sym, ap, ◌∙◌, subst, arith}
-use Rattle.std.specs.Prelude.{slice_index, slice_get, nat_lt, nat_le}
-use Rattle.std.specs.List.{list_all, AllByRecursion}
+use Rattle.std.proofs.Common.{◌≡◌, ◌≢◌, ⊎_elim, ℕ, zero, suc, ◌+◌, ◌-◌, ◌*◌, ◌/◌, ◌%◌, ◌^◌, ◌<◌, ◌≤◌, ◌==◌, true, false, List, [], ◌∷◌, ◌++◌, length, map, Some, None, Ok, if◌then◌else◌, refl, sym, ap, ◌∙◌, subst, arith}
+use Rattle.std.specs.Prelude.{slice_index, slice_get, nat_lt, is_none}
 use Rattle.std.proofs.lemmas.Bool.{cases_lt}
 use Rattle.std.proofs.lemmas.Bool.Decides.{nat_tests}
 use Rattle.std.proofs.lemmas.List.Elements.{All-nil}
@@ -14,32 +13,30 @@ use Rattle.type_tree.specs.Substitution.{substituted}
 use Rattle.type_tree.proofs.TreeLemmas.{top_of-tree_of}
 use Rattle.il_model.specs.declared.class.ClassDef.{ClassDef}
 use Rattle.il_model.specs.declared.method.MethodDef.{MethodDef}
-use Rattle.il_model.specs.declared.layout.MethodTree.{MethodTree}
-use Rattle.il_model.specs.declared.program.Program.{Program}
 use Rattle.il_model.specs.Find.{class_in_top, class_number_of}
 use Rattle.il_model.specs.Kinds.{is_struct_kind}
 use Rattle.il_model.specs.Entries.{arguments_of}
-use Rattle.il_model.specs.Found.{method_at}
 use Rattle.il_model.specs.LookUp.{numbers_from}
-use Rattle.il_model.specs.Library.{plain, exception_class, library_class, library_classes, thread_entry, library_methods}
+use Rattle.il_model.specs.Library.{plain, library_classes, thread_entry}
 use Rattle.il_model.specs.Bases.{own_of_class, own_of}
-use Rattle.il_model.specs.Admission.{has_count_in, has_count_top}
-use Rattle.rgctx_words.specs.declared.node_word.NodeWord.{NodeWord}
+use Rattle.il_model.specs.declared.layout.Limit.TheVariants as limit
+use Rattle.il_model.specs.Admission.{most_positions, limit_of, has_count_in, has_count_top}
+use Rattle.il_model.specs.Methods.{worse, worst, types_named_by, limit_at}
 use Rattle.rgctx_words.specs.declared.node_word.Definition.TheVariants as def
 use Rattle.rgctx_words.specs.Regions.{node_count, row_count, directory_index, root_index, row_index}
 use Rattle.rgctx_words.specs.NodeWords.{node_read, definition_of}
-use Rattle.rgctx_template.specs.Admitted.{is_admitted, method_positions, is_admitted_method, signature_and_locals}
+use Rattle.rgctx_template.specs.Admitted.{is_admitted, is_admitted_method}
 use Rattle.rgctx_template.specs.Catalogue.{CatData, HasMain}
 use Rattle.rgctx_fill.specs.declared.spelled.NodeTree.{NodeTree}
 use Rattle.rgctx_fill.specs.declared.spelled.NodeTree.TheVariants as tree
-use Rattle.rgctx_fill.specs.Spelled.{argument_fields, is_packed, types_of, applied_or_stop, spelled_by, spelled_from, spelled_below, spelled}
+use Rattle.rgctx_fill.specs.Spelled.{applied_or_stop, spelled_by, spelled_from, spelled_below, spelled}
 use Rattle.rgctx_fill.specs.Leaves.{word_with, word_alone, owner_in, main_class, last_leaf, later_words, leaf_words, opening}
 use Rattle.rgctx_fill.specs.Predefined.{HasLeaves}
 use Rattle.rgctx_fill.specs.Nodes.{IsAdmittedType, IsAdmittedMethod, MayStand}
 use Rattle.rgctx_fill.specs.Fitting.{AreListed, directory, AreFitting}
 use Rattle.rgctx_fill.specs.SpelledLaws.{below-is, from-used}
 use Rattle.rgctx_fill.specs.NamedLaws.{opening-used}
-use Rattle.rgctx_fill.proofs.QuietLemmas.{IsQuiet, root, derived, int32, int64, bool, quiet-admitted, alone-admitted, alone-positions, alone-substituted, alone-arguments}
+use Rattle.rgctx_fill.proofs.QuietLemmas.{IsQuiet, root, derived, int32, int64, bool, quiet-limit, quiet-admitted, alone-admitted, alone-positions, alone-substituted}
 
 -- ---- lists of words
 
@@ -194,17 +191,14 @@ module _ (cat : CatData) (main : HasMain cat.program) (leaves : HasLeaves cat.pr
   threads_admitted : IsAdmittedType cat.program (plain 12)
   threads_admitted = predefined 12 _ refl refl threads_quiet
 
-  entry_positions : nat_le (method_positions (plain 12) []) 256 ≡ true
-  entry_positions = ap (λ n. nat_le (1 + (0 + n)) 256) (alone-positions (head.Class 12))
-
-  run_admitted : is_admitted cat.program (plain 11) ≡ true
-  run_admitted = quiet-admitted cat.program (head.Class 11) run_quiet
+  entry_limit : limit_at cat.program (plain 12) [] (Some thread_entry) ≡ None
+  entry_limit =
+      ap (λ n. if nat_lt most_positions (1 + (0 + n)) then Some limit.Positions else worst (map (limit_of cat.program) (types_named_by (plain 12) [] (Some thread_entry)))) (alone-positions (head.Class 12))
+      ∙ ap (λ l. worse l (worse (limit_of cat.program (substituted (arguments_of (plain 12)) [] (plain 11))) None)) (quiet-limit cat.program (head.Class 12) threads_quiet)
+      ∙ ap (λ l. worse l None) (ap (limit_of cat.program) (alone-substituted (head.Class 11) (arguments_of (plain 12)) []) ∙ quiet-limit cat.program (head.Class 11) run_quiet)
 
   entry_admitted : is_admitted_method cat.program (plain 12) [] thread_entry ≡ true
-  entry_admitted =
-      ap (λ b. b && (list_all (is_admitted cat.program) (plain 12 ∷ []) && list_all (λ t. is_admitted cat.program (substituted (arguments_of (plain 12)) [] t)) (signature_and_locals thread_entry))) entry_positions
-      ∙ ap (λ b. (b && true) && list_all (λ t. is_admitted cat.program (substituted (arguments_of (plain 12)) [] t)) (signature_and_locals thread_entry)) threads_admitted.admitted
-      ∙ ap (λ b. b && true) (ap (is_admitted cat.program) (alone-substituted (head.Class 11) (arguments_of (plain 12)) []) ∙ run_admitted)
+  entry_admitted = ap is_none entry_limit
 
   start_admitted : IsAdmittedMethod cat.program (record { method = 0; class = plain 12; args = [] })
   start_admitted = record {
@@ -246,18 +240,67 @@ module _ (cat : CatData) (main : HasMain cat.program) (leaves : HasLeaves cat.pr
 
   leaves_stand : Each Stands 1 (leaf_words cat.program)
   unfolding Stands
-  leaves_stand =
-      (refl, (scalar head.Int32 refl int32, (scalar head.Int64 refl int64, (scalar head.Bool refl bool,
-      (predefined 0 _ refl refl object_quiet, (predefined 1 _ refl refl string_quiet,
-      (predefined 2 _ refl refl exception_quiet, (predefined 3 _ refl refl system_quiet, (predefined 4 _ refl refl arithmetic_quiet,
-      (predefined 5 _ refl refl (derived_at 5 4 _ refl refl refl refl refl arithmetic_quiet), (predefined 6 _ refl refl (derived_at 6 4 _ refl refl refl refl refl arithmetic_quiet),
-      (predefined 7 _ refl refl (derived_at 7 3 _ refl refl refl refl refl system_quiet), (predefined 8 _ refl refl (derived_at 8 3 _ refl refl refl refl refl system_quiet),
-      (predefined 9 _ refl refl (derived_at 9 3 _ refl refl refl refl refl system_quiet), (predefined 10 _ refl refl (derived_at 10 3 _ refl refl refl refl refl system_quiet),
-      (predefined 11 _ refl refl run_quiet, (threads_admitted,
-      (subst (MayStand cat.program 18) (sym (class_word (spelled_below (opening cat.program) 18) 18 (main_class cat.program) owner_small ∙ ap (λ n. tree.Kind (plain n)) owner_is)) owner_admitted,
-      (subst (MayStand cat.program 19) (sym (method_word (spelled_below (opening cat.program) 19) 19 0 17 (plain 12) (omega arith) (omega arith) type_17)) start_admitted,
-      (subst (MayStand cat.program 20) (sym (method_word (spelled_below (opening cat.program) 20) 20 cat.program.main 18 (plain leaves.main.owner) (omega arith) (omega arith) type_18)) main_admitted,
-      tt))))))))))))))))))))
+  leaves_stand = (
+    refl,
+    (
+      scalar head.Int32 refl int32,
+      (
+        scalar head.Int64 refl int64,
+        (
+          scalar head.Bool refl bool,
+          (
+            predefined 0 _ refl refl object_quiet,
+            (
+              predefined 1 _ refl refl string_quiet,
+              (
+                predefined 2 _ refl refl exception_quiet,
+                (
+                  predefined 3 _ refl refl system_quiet,
+                  (
+                    predefined 4 _ refl refl arithmetic_quiet,
+                    (
+                      predefined 5 _ refl refl (derived_at 5 4 _ refl refl refl refl refl arithmetic_quiet),
+                      (
+                        predefined 6 _ refl refl (derived_at 6 4 _ refl refl refl refl refl arithmetic_quiet),
+                        (
+                          predefined 7 _ refl refl (derived_at 7 3 _ refl refl refl refl refl system_quiet),
+                          (
+                            predefined 8 _ refl refl (derived_at 8 3 _ refl refl refl refl refl system_quiet),
+                            (
+                              predefined 9 _ refl refl (derived_at 9 3 _ refl refl refl refl refl system_quiet),
+                              (
+                                predefined 10 _ refl refl (derived_at 10 3 _ refl refl refl refl refl system_quiet),
+                                (
+                                  predefined 11 _ refl refl run_quiet,
+                                  (
+                                    threads_admitted,
+                                    (
+                                      subst (MayStand cat.program 18) (sym (class_word (spelled_below (opening cat.program) 18) 18 (main_class cat.program) owner_small ∙ ap (λ n. tree.Kind (plain n)) owner_is)) owner_admitted,
+                                      (
+                                        subst (MayStand cat.program 19) (sym (method_word (spelled_below (opening cat.program) 19) 19 0 17 (plain 12) (omega arith) (omega arith) type_17)) start_admitted,
+                                        (
+                                          subst (MayStand cat.program 20) (sym (method_word (spelled_below (opening cat.program) 20) 20 cat.program.main 18 (plain leaves.main.owner) (omega arith) (omega arith) type_18)) main_admitted,
+                                          tt,
+                                        ),
+                                      ),
+                                    ),
+                                  ),
+                                ),
+                              ),
+                            ),
+                          ),
+                        ),
+                      ),
+                    ),
+                  ),
+                ),
+              ),
+            ),
+          ),
+        ),
+      ),
+    ),
+  )
 
   -- ---- the rest is 0
 
@@ -289,19 +332,101 @@ module _ (cat : CatData) (main : HasMain cat.program) (leaves : HasLeaves cat.pr
   later_rise : AreRising 0 (later_words cat.program)
   later_rise =
       let low : 13 ≤ main_class cat.program = main_small.0 in
-      let high : 16 + main_class cat.program < 0x8000 = main_small.1 in
-      (omega arith, (omega arith, (omega arith, (omega arith, (omega arith,
-      (omega arith, (omega arith, (omega arith, (omega arith, (omega arith,
-      (omega arith, (omega arith, (omega arith, (omega arith, (omega arith,
-      (omega arith, (omega arith, (omega arith, (omega arith, tt)))))))))))))))))))
+      let high : 16 + main_class cat.program < 0x8000 = main_small.1 in (
+        omega arith,
+        (
+          omega arith,
+          (
+            omega arith,
+            (
+              omega arith,
+              (
+                omega arith,
+                (
+                  omega arith,
+                  (
+                    omega arith,
+                    (
+                      omega arith,
+                      (
+                        omega arith,
+                        (
+                          omega arith,
+                          (
+                            omega arith,
+                            (
+                              omega arith,
+                              (
+                                omega arith,
+                                (
+                                  omega arith,
+                                  (
+                                    omega arith,
+                                    (omega arith, (omega arith, (omega arith, (omega arith, tt)))),
+                                  ),
+                                ),
+                              ),
+                            ),
+                          ),
+                        ),
+                      ),
+                    ),
+                  ),
+                ),
+              ),
+            ),
+          ),
+        ),
+      )
 
   no_image : Each (λ i w. w ≢ word_alone def.Image) 0 (later_words cat.program)
   no_image =
-      let low : 13 ≤ main_class cat.program = main_small.0 in
-      (λ z. omega arith, (λ z. omega arith, (λ z. omega arith, (λ z. omega arith, (λ z. omega arith,
-      (λ z. omega arith, (λ z. omega arith, (λ z. omega arith, (λ z. omega arith, (λ z. omega arith,
-      (λ z. omega arith, (λ z. omega arith, (λ z. omega arith, (λ z. omega arith, (λ z. omega arith,
-      (λ z. omega arith, (λ z. omega arith, (λ z. omega arith, (λ z. omega arith, tt)))))))))))))))))))
+      let low : 13 ≤ main_class cat.program = main_small.0 in (
+        λ z. omega arith,
+        (
+          λ z. omega arith,
+          (
+            λ z. omega arith,
+            (
+              λ z. omega arith,
+              (
+                λ z. omega arith,
+                (
+                  λ z. omega arith,
+                  (
+                    λ z. omega arith,
+                    (
+                      λ z. omega arith,
+                      (
+                        λ z. omega arith,
+                        (
+                          λ z. omega arith,
+                          (
+                            λ z. omega arith,
+                            (
+                              λ z. omega arith,
+                              (
+                                λ z. omega arith,
+                                (
+                                  λ z. omega arith,
+                                  (
+                                    λ z. omega arith,
+                                    (λ z. omega arith, (λ z. omega arith, (λ z. omega arith, (λ z. omega arith, tt)))),
+                                  ),
+                                ),
+                              ),
+                            ),
+                          ),
+                        ),
+                      ),
+                    ),
+                  ),
+                ),
+              ),
+            ),
+          ),
+        ),
+      )
 
   words_differ : (k l : ℕ) → k < l → l < length (leaf_words cat.program) → slice_index (leaf_words cat.program) k ≢ slice_index (leaf_words cat.program) l
   words_differ k zero less high e = absurd (omega arith)

@@ -1,16 +1,14 @@
 -- Types whose closure has no type that passes a limit: scalars, and classes without fields and interfaces whose bases are such classes.
-use Rattle.std.proofs.Common.{◌≡◌, ℕ, zero, suc, ◌+◌, ◌*◌, Bool, true, false, ◌&&◌, ◌||◌, List, [], ◌∷◌, ◌++◌, map, flat_map, filter, Option, Some, None, if◌then◌else◌, refl, sym, ap, ◌∙◌, subst, arith}
+use Rattle.std.proofs.Common.{◌≡◌, ℕ, zero, suc, ◌*◌, Bool, true, false, ◌&&◌, ◌||◌, List, [], ◌∷◌, ◌++◌, map, flat_map, filter, Option, Some, None, if◌then◌else◌, refl, sym, ap, ◌∙◌, subst}
 use Rattle.std.specs.Prelude.{nat_lt, slice_get, option_map, option_and_then, option_to_list, is_none}
 use Rattle.std.specs.List.{list_any, list_all, AllByRecursion}
 use Rattle.std.proofs.lemmas.List.Folds.{list_any-append}
 use Rattle.std.proofs.lemmas.List.Elements.{All-nil}
-use Rattle.std.proofs.lemmas.Bool.Decides.{nat_tests}
 use Rattle.type_tree.specs.declared.tree.TExpr.{TExpr}
 use Rattle.type_tree.specs.declared.tree.Head.{Head}
 use Rattle.type_tree.specs.declared.tree.Head.TheVariants as head
-use Rattle.type_tree.specs.declared.tree.TNode.{TNode}
-use Rattle.type_tree.specs.declared.tree.TNode.TheVariants.{Node, ClassVar, MethodVar}
-use Rattle.type_tree.specs.Tree.{top_of, node, HasVariablesBelow, IsClosed}
+use Rattle.type_tree.specs.declared.tree.TNode.TheVariants.{Node}
+use Rattle.type_tree.specs.Tree.{node, HasVariablesBelow, IsClosed}
 use Rattle.type_tree.specs.Positions.{level_positions, positions_of}
 use Rattle.type_tree.specs.Substitution.{level_substituted, substituted}
 use Rattle.type_tree.proofs.TreeLemmas.{top_of-tree_of, folded-node}
@@ -19,15 +17,15 @@ use Rattle.il_model.specs.declared.class.ClassDef.{ClassDef}
 use Rattle.il_model.specs.declared.class.FieldDef.{FieldDef}
 use Rattle.il_model.specs.declared.layout.Limit.TheVariants as limit
 use Rattle.il_model.specs.declared.program.Program.{Program}
-use Rattle.il_model.specs.Find.{class_in_top, class_number_of, class_of}
+use Rattle.il_model.specs.Find.{class_in_top, class_of}
 use Rattle.il_model.specs.Kinds.{is_struct_kind, is_struct_class, is_value_top, is_value}
 use Rattle.il_model.specs.Library.{plain}
 use Rattle.il_model.specs.Entries.{arguments_at, arguments_of}
 use Rattle.il_model.specs.Trees.{trees_within, trees_in}
-use Rattle.il_model.specs.Bases.{with_args_of, base_of}
-use Rattle.il_model.specs.Interfaces.{interfaces_in, own_interfaces_of}
+use Rattle.il_model.specs.Bases.{with_args_of}
+use Rattle.il_model.specs.Interfaces.{interfaces_in}
 use Rattle.il_model.specs.Layouts.{fields_in, kinds_at, parts_if, instance_kinds_of, parts_of, words_in, words_within, most_trees, words_of}
-use Rattle.il_model.specs.Admission.{most_positions, most_words, has_count, has_count_top, value_fields_of, steps_of, closure_within, closure_of, limited_trees_of, is_large, is_wide, limit_among, limit_of}
+use Rattle.il_model.specs.Admission.{most_positions, most_words, has_count, has_count_top, steps_of, closure_within, closure_of, limited_trees_of, is_large, is_wide, limit_of}
 use Rattle.il_model.specs.ClassRules.{has_counts}
 use Rattle.rgctx_template.specs.Admitted.{is_admitted}
 use Rattle.rgctx_fill.specs.Nodes.{IsAdmittedType}
@@ -173,10 +171,13 @@ module _ (program : Program) where
   narrow _ (root number c is kind interfaces fields base) = narrow_class number c is kind
   narrow _ (derived number b c is kind interfaces fields base q) = narrow_class number c is kind
 
+  pub quiet-limit : (h : Head) → IsQuiet h → limit_of program (node h []) ≡ None
+  quiet-limit h q =
+      ap (λ b. if b then Some limit.Positions else (if list_any (is_wide program) (limited_trees_of program (node h [])) then Some limit.ValueWords else None)) (limited_none is_large small h q)
+      ∙ ap (λ b. if b then Some limit.ValueWords else None) (limited_none (is_wide program) narrow h q)
+
   pub quiet-admitted : (h : Head) → IsQuiet h → is_admitted program (node h []) ≡ true
-  quiet-admitted h q =
-      ap (λ b. is_none (if b then Some limit.Positions else (if list_any (is_wide program) (limited_trees_of program (node h [])) then Some limit.ValueWords else None))) (limited_none is_large small h q)
-      ∙ ap (λ b. is_none (if b then Some limit.ValueWords else None)) (limited_none (is_wide program) narrow h q)
+  quiet-admitted h q = ap is_none (quiet-limit h q)
 
   count_of : (h : Head) → has_count_top program (Node h []) ≡ true → has_counts program (node h []) ≡ true
   count_of h e =

@@ -1,7 +1,6 @@
 -- The reader of a node: the types of the arguments read so far go before those of the others, whatever is held later.
-use Rattle.std.proofs.Common.{◌≡◌, ◌≢◌, ◌⊎◌, ⊎_elim, ℕ, zero, suc, ◌+◌, ◌*◌, ◌^◌, ◌<◌, ◌≤◌, ◌==◌, Bool, true, false, List, [], ◌∷◌, ◌++◌, length, drop, Option, Some, None, Result, Ok, Err, if◌then◌else◌, refl, sym, ap, ◌∙◌, subst, arith, append_assoc, add-one, drop-cons}
+use Rattle.std.proofs.Common.{◌≡◌, ◌≢◌, ℕ, ◌+◌, ◌*◌, ◌^◌, ◌<◌, ◌==◌, true, false, List, [], ◌∷◌, ◌++◌, length, drop, Option, Some, None, Result, Ok, Err, if◌then◌else◌, refl, sym, ap, ◌∙◌, subst, arith, append_assoc, add-one, drop-cons}
 use Rattle.std.specs.Prelude.{slice_index}
-use Rattle.std.proofs.lemmas.Bool.{cases_eq}
 use Rattle.std.proofs.lemmas.Bool.Decides.{nat_tests}
 use Rattle.type_tree.specs.declared.tree.TExpr.{TExpr}
 use Rattle.il_model.specs.declared.layout.MethodTree.{MethodTree}
@@ -13,15 +12,13 @@ use Rattle.rgctx_words.specs.Held.{Grows}
 use Rattle.rgctx_template.specs.Catalogue.{CatData}
 use Rattle.rgctx_fill.specs.declared.spelled.NodeTree.{NodeTree}
 use Rattle.rgctx_fill.specs.declared.spelled.NodeTree.TheVariants as tree
-use Rattle.rgctx_fill.specs.Spelled.{argument_fields, is_packed, type_or_stop, with_type, types_of, applied, method_applied, applied_or_stop, spelled_by, spelled_from, spelled_below, spelled}
-use Rattle.rgctx_fill.specs.Leaves.{opening}
+use Rattle.rgctx_fill.specs.Spelled.{argument_fields, is_packed, type_or_stop, with_type, types_of, applied, applied_or_stop, spelled_by, spelled_from, spelled_below, spelled}
 use Rattle.rgctx_fill.specs.Nodes.{MayStand}
 use Rattle.rgctx_fill.specs.Fitting.{AreFitting}
-use Rattle.rgctx_fill.specs.Claims.{Names, NamesFrom}
+use Rattle.rgctx_fill.specs.Claims.{NamesFrom}
 use Rattle.rgctx_fill.specs.Reading.{IsUnknown, IsNodeTree}
 use Rattle.rgctx_fill.specs.SpelledLaws.{is_zero, below-is, from-used, spelled-grows}
 use Rattle.rgctx_fill.specs.PlaceLaws.{node-place}
-use Rattle.rgctx_fill.specs.GrowthLaws.{stands-used}
 use Rattle.rgctx_fill.proofs.SpellingLemmas.{Reads, from-reads}
 use Rattle.rgctx_fill.proofs.NodeLaws.{type_below}
 

@@ -1,10 +1,9 @@
 -- Two nodes in use never spell the same: words that spell the same type or method, from the same reading of their arguments, are one word.
-use Rattle.std.proofs.Common.{◌≡◌, ◌≢◌, ◌⊎◌, ⊎_elim, inl, inr, ℕ, zero, suc, ◌+◌, ◌-◌, ◌*◌, ◌/◌, ◌%◌, ◌^◌, ◌<◌, ◌≤◌, ◌==◌, Bool, true, false, not, ◌&&◌, ◌||◌, List, [], ◌∷◌, Option, Some, None, Result, Ok, Err, if◌then◌else◌, refl, sym, ap, ◌∙◌, subst, arith, eq-eqb, eqb-true}
+use Rattle.std.proofs.Common.{◌≡◌, ◌⊎◌, ⊎_elim, inl, inr, ℕ, ◌+◌, ◌-◌, ◌<◌, ◌≤◌, ◌==◌, Bool, true, false, not, ◌&&◌, ◌||◌, List, [], ◌∷◌, Option, Some, None, Result, Ok, Err, if◌then◌else◌, refl, sym, ap, ◌∙◌, arith, eqb-true}
 use Rattle.std.specs.Prelude.{slice_index, nat_lt}
-use Rattle.std.proofs.lemmas.Bool.{cases_eq, cases_lt}
+use Rattle.std.proofs.lemmas.Bool.{cases_lt}
 use Rattle.std.proofs.lemmas.Bool.Decides.{nat_tests}
 use Rattle.type_tree.specs.declared.tree.TExpr.{TExpr}
-use Rattle.type_tree.specs.declared.tree.TNode.{TNode}
 use Rattle.type_tree.specs.declared.tree.TNode.TheVariants.{Node}
 use Rattle.type_tree.specs.declared.tree.Head.{Head}
 use Rattle.type_tree.specs.declared.tree.Head.TheVariants as head
@@ -17,7 +16,7 @@ use Rattle.rgctx_words.specs.declared.node_word.Definition.TheVariants as def
 use Rattle.rgctx_words.specs.NodeWords.{node_word, node_read, number_of, below_classes, definition_of}
 use Rattle.rgctx_fill.specs.declared.spelled.NodeTree.{NodeTree}
 use Rattle.rgctx_fill.specs.declared.spelled.NodeTree.TheVariants as tree
-use Rattle.rgctx_fill.specs.Spelled.{argument_fields, is_packed, type_or_stop, with_type, types_of, applied, applied_or_stop, spelled_by, spelled_from, spelled_below, spelled}
+use Rattle.rgctx_fill.specs.Spelled.{argument_fields, is_packed, type_or_stop, with_type, types_of, applied, applied_or_stop, spelled_by, spelled_from}
 
 -- ---- definitions
 

@@ -1,11 +1,10 @@
 -- An allowed claim keeps the fit; and what is always there, or named by a word, holds a word.
-use Rattle.std.proofs.Common.{◌≡◌, ◌≢◌, ◌⊎◌, ⊎_elim, ℕ, ◌+◌, ◌-◌, ◌*◌, ◌^◌, ◌<◌, ◌≤◌, List, length, set, refl, sym, ap, ◌∙◌, subst, arith, get_or-set_same, get_or-set_other}
+use Rattle.std.proofs.Common.{◌≡◌, ◌≢◌, ⊎_elim, ℕ, ◌-◌, ◌<◌, ◌≤◌, List, length, refl, sym, ap, ◌∙◌, subst, arith, get_or-set_same, get_or-set_other}
 use Rattle.std.specs.Prelude.{slice_index, slice_set}
 use Rattle.std.proofs.lemmas.Bool.{cases_eq, cases_lt}
-use Rattle.rgctx_words.specs.declared.directory.DirectoryWord.{DirectoryWord}
 use Rattle.rgctx_words.specs.declared.place.ContextPlace.{ContextPlace}
 use Rattle.rgctx_words.specs.declared.place.ContextPlace.TheVariants as place
-use Rattle.rgctx_words.specs.Regions.{word_count, node_count, row_count, row_words, directory_at, directory_index, root_index, row_index, row_address}
+use Rattle.rgctx_words.specs.Regions.{word_count, node_count, row_count, row_words, directory_at, directory_index, root_index, row_index}
 use Rattle.rgctx_words.specs.Places.{place_of}
 use Rattle.rgctx_words.specs.Directory.{directory_read}
 use Rattle.rgctx_words.specs.Held.{Within, Grows}
@@ -103,9 +102,9 @@ module _ (cat : CatData) (at new held : ℕ → ℕ) (i word : ℕ) (fits : AreF
   rows_listed_kept : AreListed (directory new) 0 row_count
   rows_listed_kept = ⊎_elim
       (λ (e : directory_index (i - directory_at) ≡ i). ⊎_elim
-          (λ (low : i - directory_at < row_count). row_claimed (i - directory_at) low e)
-          (λ (high : row_count ≤ i - directory_at). listed-same (directory at) (directory new) 0 row_count (λ j low. others _ (λ d. omega arith)) fits.rows_listed)
-          (cases_lt (i - directory_at) row_count))
+      (λ (low : i - directory_at < row_count). row_claimed (i - directory_at) low e)
+      (λ (high : row_count ≤ i - directory_at). listed-same (directory at) (directory new) 0 row_count (λ j low. others _ (λ d. omega arith)) fits.rows_listed)
+      (cases_lt (i - directory_at) row_count))
       (λ (ne : directory_index (i - directory_at) ≢ i). listed-same (directory at) (directory new) 0 row_count (λ j low. others _ (λ d. ne (omega arith))) fits.rows_listed)
       (cases_eq (directory_index (i - directory_at)) i)
 

@@ -2,7 +2,7 @@
 use Rattle.std.specs.Prelude.{◌≡◌, ◌≢◌, ◌⊎◌, ℕ, ◌≤◌, ◌<◌}
 use Rattle.rgctx_words.specs.declared.place.ContextPlace.{ContextPlace}
 use Rattle.rgctx_words.specs.declared.place.ContextPlace.TheVariants as place
-use Rattle.rgctx_words.specs.Regions.{node_count, row_count, directory_at, directory_index, row_address}
+use Rattle.rgctx_words.specs.Regions.{row_count, directory_at, directory_index, row_address}
 use Rattle.rgctx_words.specs.Places.{place_of}
 use Rattle.rgctx_words.specs.Directory.{directory_read}
 use Rattle.rgctx_template.specs.Catalogue.{CatData}

@@ -1,5 +1,5 @@
 -- What fits goes on to fit as words come to the ones that are held.
-use Rattle.std.proofs.Common.{◌≡◌, ◌≢◌, ℕ, ◌+◌, ◌*◌, ◌<◌, Bool, true, false, List, [], length, Option, Some, None, if◌then◌else◌, refl, sym, ap, ◌∙◌, subst, arith}
+use Rattle.std.proofs.Common.{◌≡◌, ◌≢◌, ℕ, ◌+◌, ◌*◌, ◌<◌, Bool, true, false, [], length, Option, Some, None, if◌then◌else◌, refl, sym, ap, ◌∙◌, subst, arith}
 use Rattle.std.specs.Prelude.{nat_lt, slice_get}
 use Rattle.type_tree.specs.declared.tree.TExpr.{TExpr}
 use Rattle.il_model.specs.declared.entry.Entry.{Entry}
@@ -16,7 +16,7 @@ use Rattle.rgctx_fill.specs.declared.spelled.NodeTree.{NodeTree}
 use Rattle.rgctx_fill.specs.declared.spelled.NodeTree.TheVariants as tree
 use Rattle.rgctx_fill.specs.Spelled.{spelled, type_in, naming_of}
 use Rattle.rgctx_fill.specs.Nodes.{MayStand}
-use Rattle.rgctx_fill.specs.Templates.{tree_template, template_at}
+use Rattle.rgctx_fill.specs.Templates.{tree_template}
 use Rattle.rgctx_fill.specs.NamedValues.{IsMethodValue, IsSlotValue, IsValue, IsNamed, entry_at, method_in_slot}
 use Rattle.rgctx_fill.specs.Fitting.{directory, use_of, IsRow, IsRowOf, IsNext, IsEntry}
 use Rattle.rgctx_fill.specs.SpelledLaws.{is_zero, spelled-grows}

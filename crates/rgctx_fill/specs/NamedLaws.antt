@@ -1,18 +1,16 @@
 -- The leaves hold words, and so does what a word names.
-use Rattle.std.proofs.Common.{◌≡◌, ◌≢◌, ◌⊎◌, ⊎_elim, ℕ, zero, suc, ◌+◌, ◌-◌, ◌*◌, ◌/◌, ◌%◌, ◌<◌, ◌≤◌, List, [], ◌∷◌, length, sym, ap, ◌∙◌, subst, arith}
+use Rattle.std.proofs.Common.{◌≡◌, ◌≢◌, ⊎_elim, ℕ, zero, suc, ◌-◌, ◌/◌, ◌%◌, ◌<◌, ◌≤◌, List, [], ◌∷◌, length, sym, ap, ◌∙◌, subst, arith}
 use Rattle.std.specs.Prelude.{slice_index}
 use Rattle.std.specs.List.{AllByRecursion}
 use Rattle.std.proofs.lemmas.Bool.{cases_eq, cases_lt}
 use Rattle.il_model.specs.declared.program.Program.{Program}
 use Rattle.rgctx_words.specs.declared.directory.DirectoryWord.{DirectoryWord}
-use Rattle.rgctx_words.specs.declared.place.ContextPlace.{ContextPlace}
 use Rattle.rgctx_words.specs.declared.place.ContextPlace.TheVariants as place
 use Rattle.rgctx_words.specs.Regions.{word_count, node_count, row_count, row_words, directory_at, roots_at, rows_at, directory_index, root_index, row_index, row_address}
-use Rattle.rgctx_words.specs.Places.{place_of}
 use Rattle.rgctx_words.specs.Directory.{directory_read}
 use Rattle.rgctx_template.specs.Catalogue.{CatData}
 use Rattle.rgctx_fill.specs.Leaves.{IsLeaf, leaf_words, opening}
-use Rattle.rgctx_fill.specs.Fitting.{directory, use_of, IsRow, IsRowOf, IsNext, IsEntry, AreFitting}
+use Rattle.rgctx_fill.specs.Fitting.{directory, use_of, IsRowOf, IsNext, AreFitting}
 use Rattle.rgctx_fill.specs.Claims.{IsOfRow, NamesFrom, Names}
 use Rattle.rgctx_fill.specs.PlaceLaws.{node-place, directory-place, root-place, link-place, entry-place}
 
@@ -24,11 +22,52 @@ used_at (x ∷ xs) all zero less = all.0
 used_at (x ∷ xs) all (suc k) less = used_at xs all.1 k (omega arith)
 
 leaves_used : (program : Program) → AllByRecursion (λ w. w ≢ 0) (leaf_words program)
-leaves_used program =
-    (λ z. omega arith, (λ z. omega arith, (λ z. omega arith, (λ z. omega arith, (λ z. omega arith,
-    (λ z. omega arith, (λ z. omega arith, (λ z. omega arith, (λ z. omega arith, (λ z. omega arith,
-    (λ z. omega arith, (λ z. omega arith, (λ z. omega arith, (λ z. omega arith, (λ z. omega arith,
-    (λ z. omega arith, (λ z. omega arith, (λ z. omega arith, (λ z. omega arith, (λ z. omega arith, tt))))))))))))))))))))
+leaves_used program = (
+  λ z. omega arith,
+  (
+    λ z. omega arith,
+    (
+      λ z. omega arith,
+      (
+        λ z. omega arith,
+        (
+          λ z. omega arith,
+          (
+            λ z. omega arith,
+            (
+              λ z. omega arith,
+              (
+                λ z. omega arith,
+                (
+                  λ z. omega arith,
+                  (
+                    λ z. omega arith,
+                    (
+                      λ z. omega arith,
+                      (
+                        λ z. omega arith,
+                        (
+                          λ z. omega arith,
+                          (
+                            λ z. omega arith,
+                            (
+                              λ z. omega arith,
+                              (λ z. omega arith, (λ z. omega arith, (λ z. omega arith, (λ z. omega arith, (λ z. omega arith, tt))))),
+                            ),
+                          ),
+                        ),
+                      ),
+                    ),
+                  ),
+                ),
+              ),
+            ),
+          ),
+        ),
+      ),
+    ),
+  ),
+)
 
 pub opening-used : (program : Program) (i : ℕ) → IsLeaf i → opening program i ≢ 0
 opening-used program zero leaf = absurd (omega arith)
@@ -116,10 +155,10 @@ module _ (cat : CatData) (at : ℕ → ℕ) (fits : AreFitting cat at) where
   names-used i j low used named = ⊎_elim
       (λ (h : i < node_count). in_nodes i j h used named)
       (λ (g : node_count ≤ i). ⊎_elim
-          (λ (h : i < roots_at). in_directory i j g h used named)
-          (λ (k : roots_at ≤ i). ⊎_elim
-              (λ (h : i < rows_at). in_roots i j k h used named)
-              (λ (h : rows_at ≤ i). in_rows i j h low used named)
-              (cases_lt i rows_at))
-          (cases_lt i roots_at))
+      (λ (h : i < roots_at). in_directory i j g h used named)
+      (λ (k : roots_at ≤ i). ⊎_elim
+      (λ (h : i < rows_at). in_roots i j k h used named)
+      (λ (h : rows_at ≤ i). in_rows i j h low used named)
+      (cases_lt i rows_at))
+      (cases_lt i roots_at))
       (cases_lt i node_count)

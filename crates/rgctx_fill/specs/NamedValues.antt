@@ -1,5 +1,5 @@
 -- The value that an entry of a node names. This project's own.
-use Rattle.std.specs.Prelude.{◌≡◌, ℕ, ◌+◌, ◌-◌, ◌*◌, ◌<◌, Bool, true, false, not, List, [], ◌++◌, length, take, count_by, slice_get, Option, Some, None, option_map, option_and_then, if◌then◌else◌}
+use Rattle.std.specs.Prelude.{◌≡◌, ℕ, ◌+◌, ◌-◌, ◌*◌, ◌<◌, Bool, not, List, [], ◌++◌, length, take, count_by, slice_get, Option, Some, None, option_map, option_and_then, if◌then◌else◌}
 use Rattle.type_tree.specs.declared.tree.TExpr.{TExpr}
 use Rattle.il_model.specs.declared.class.FieldDef.{FieldDef}
 use Rattle.il_model.specs.declared.entry.Entry.{Entry}

@@ -1,8 +1,7 @@
 -- What stands at the index of each place.
-use Rattle.std.proofs.Common.{◌≡◌, ℕ, zero, suc, ◌+◌, ◌-◌, ◌*◌, ◌/◌, ◌%◌, ◌<◌, Bool, true, false, if◌then◌else◌, refl, ap, ◌∙◌, arith}
+use Rattle.std.proofs.Common.{◌≡◌, ℕ, zero, suc, ◌-◌, ◌/◌, ◌%◌, ◌<◌, true, false, refl, ◌∙◌, arith}
 use Rattle.std.specs.Prelude.{nat_lt}
 use Rattle.std.proofs.lemmas.Bool.Decides.{nat_tests}
-use Rattle.rgctx_words.specs.declared.place.ContextPlace.{ContextPlace}
 use Rattle.rgctx_words.specs.declared.place.ContextPlace.TheVariants as place
 use Rattle.rgctx_words.specs.Regions.{node_count, row_count, row_words, directory_at, roots_at, rows_at, directory_index, root_index, row_index}
 use Rattle.rgctx_words.specs.Places.{place_of, in_row}

@@ -27,7 +27,7 @@ pub(crate) enum Types {
 /// The type or the instantiated method that a node spells. Its word is loaded, then in the same way those of the
 /// nodes that it names, a method's class first; the reading stops at the first load that answers 0, and names that
 /// node. Where the words meet the rule only the node's own word can be 0, and no leaf's, no held word and none that
-/// a held word names is. Then as many words are loaded as the type or method has positions, and one for the node.
+/// a held word names is. Then one word is loaded for each position of the type or method, a method being one.
 #[cycle(reading)]
 pub fn node_tree<W: Words<Fits>>(
     alloc: Global,

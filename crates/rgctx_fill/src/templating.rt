@@ -81,7 +81,9 @@ fn type_template(alloc: Global, program: &Program, kind: &Tree) -> Result<Items<
                 None => Ok(Items::new(alloc)),
             }
         }
-        TNode::Node(Head::Int32 | Head::Int64 | Head::Bool | Head::Vector, _) => Ok(Items::new(alloc)),
+        TNode::Node(Head::Int32 | Head::Int64 | Head::Bool | Head::Vector, _) => Ok(Items::new(
+            alloc,
+        )),
         TNode::ClassVar(_) | TNode::MethodVar(_) => Ok(Items::new(alloc)),
     }
 }
