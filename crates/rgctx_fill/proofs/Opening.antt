@@ -38,6 +38,10 @@ use Rattle.rgctx_fill.specs.SpelledLaws.{below-is, from-used}
 use Rattle.rgctx_fill.specs.NamedLaws.{opening-used}
 use Rattle.rgctx_fill.proofs.QuietLemmas.{IsQuiet, root, derived, int32, int64, bool, quiet-limit, quiet-admitted, alone-admitted, alone-positions, alone-substituted}
 
+infixr 5 ◌▸◌
+◌▸◌ : {A B : Type 0} → A → B → A × B
+x ▸ y = (x, y)
+
 -- ---- lists of words
 
 -- each word of a list has a fact with its number
@@ -240,67 +244,22 @@ module _ (cat : CatData) (main : HasMain cat.program) (leaves : HasLeaves cat.pr
 
   leaves_stand : Each Stands 1 (leaf_words cat.program)
   unfolding Stands
-  leaves_stand = (
-    refl,
-    (
-      scalar head.Int32 refl int32,
-      (
-        scalar head.Int64 refl int64,
-        (
-          scalar head.Bool refl bool,
-          (
-            predefined 0 _ refl refl object_quiet,
-            (
-              predefined 1 _ refl refl string_quiet,
-              (
-                predefined 2 _ refl refl exception_quiet,
-                (
-                  predefined 3 _ refl refl system_quiet,
-                  (
-                    predefined 4 _ refl refl arithmetic_quiet,
-                    (
-                      predefined 5 _ refl refl (derived_at 5 4 _ refl refl refl refl refl arithmetic_quiet),
-                      (
-                        predefined 6 _ refl refl (derived_at 6 4 _ refl refl refl refl refl arithmetic_quiet),
-                        (
-                          predefined 7 _ refl refl (derived_at 7 3 _ refl refl refl refl refl system_quiet),
-                          (
-                            predefined 8 _ refl refl (derived_at 8 3 _ refl refl refl refl refl system_quiet),
-                            (
-                              predefined 9 _ refl refl (derived_at 9 3 _ refl refl refl refl refl system_quiet),
-                              (
-                                predefined 10 _ refl refl (derived_at 10 3 _ refl refl refl refl refl system_quiet),
-                                (
-                                  predefined 11 _ refl refl run_quiet,
-                                  (
-                                    threads_admitted,
-                                    (
-                                      subst (MayStand cat.program 18) (sym (class_word (spelled_below (opening cat.program) 18) 18 (main_class cat.program) owner_small ∙ ap (λ n. tree.Kind (plain n)) owner_is)) owner_admitted,
-                                      (
-                                        subst (MayStand cat.program 19) (sym (method_word (spelled_below (opening cat.program) 19) 19 0 17 (plain 12) (omega arith) (omega arith) type_17)) start_admitted,
-                                        (
-                                          subst (MayStand cat.program 20) (sym (method_word (spelled_below (opening cat.program) 20) 20 cat.program.main 18 (plain leaves.main.owner) (omega arith) (omega arith) type_18)) main_admitted,
-                                          tt,
-                                        ),
-                                      ),
-                                    ),
-                                  ),
-                                ),
-                              ),
-                            ),
-                          ),
-                        ),
-                      ),
-                    ),
-                  ),
-                ),
-              ),
-            ),
-          ),
-        ),
-      ),
-    ),
-  )
+  leaves_stand =
+      refl ▸
+      scalar head.Int32 refl int32 ▸ scalar head.Int64 refl int64 ▸ scalar head.Bool refl bool ▸
+      predefined 0 _ refl refl object_quiet ▸ predefined 1 _ refl refl string_quiet ▸
+      predefined 2 _ refl refl exception_quiet ▸ predefined 3 _ refl refl system_quiet ▸ predefined 4 _ refl refl arithmetic_quiet ▸
+      predefined 5 _ refl refl (derived_at 5 4 _ refl refl refl refl refl arithmetic_quiet) ▸
+      predefined 6 _ refl refl (derived_at 6 4 _ refl refl refl refl refl arithmetic_quiet) ▸
+      predefined 7 _ refl refl (derived_at 7 3 _ refl refl refl refl refl system_quiet) ▸
+      predefined 8 _ refl refl (derived_at 8 3 _ refl refl refl refl refl system_quiet) ▸
+      predefined 9 _ refl refl (derived_at 9 3 _ refl refl refl refl refl system_quiet) ▸
+      predefined 10 _ refl refl (derived_at 10 3 _ refl refl refl refl refl system_quiet) ▸
+      predefined 11 _ refl refl run_quiet ▸ threads_admitted ▸
+      subst (MayStand cat.program 18) (sym (class_word (spelled_below (opening cat.program) 18) 18 (main_class cat.program) owner_small ∙ ap (λ n. tree.Kind (plain n)) owner_is)) owner_admitted ▸
+      subst (MayStand cat.program 19) (sym (method_word (spelled_below (opening cat.program) 19) 19 0 17 (plain 12) (omega arith) (omega arith) type_17)) start_admitted ▸
+      subst (MayStand cat.program 20) (sym (method_word (spelled_below (opening cat.program) 20) 20 cat.program.main 18 (plain leaves.main.owner) (omega arith) (omega arith) type_18)) main_admitted ▸
+      tt
 
   -- ---- the rest is 0
 
@@ -332,101 +291,19 @@ module _ (cat : CatData) (main : HasMain cat.program) (leaves : HasLeaves cat.pr
   later_rise : AreRising 0 (later_words cat.program)
   later_rise =
       let low : 13 ≤ main_class cat.program = main_small.0 in
-      let high : 16 + main_class cat.program < 0x8000 = main_small.1 in (
-        omega arith,
-        (
-          omega arith,
-          (
-            omega arith,
-            (
-              omega arith,
-              (
-                omega arith,
-                (
-                  omega arith,
-                  (
-                    omega arith,
-                    (
-                      omega arith,
-                      (
-                        omega arith,
-                        (
-                          omega arith,
-                          (
-                            omega arith,
-                            (
-                              omega arith,
-                              (
-                                omega arith,
-                                (
-                                  omega arith,
-                                  (
-                                    omega arith,
-                                    (omega arith, (omega arith, (omega arith, (omega arith, tt)))),
-                                  ),
-                                ),
-                              ),
-                            ),
-                          ),
-                        ),
-                      ),
-                    ),
-                  ),
-                ),
-              ),
-            ),
-          ),
-        ),
-      )
+      let high : 16 + main_class cat.program < 0x8000 = main_small.1 in
+      omega arith ▸ omega arith ▸ omega arith ▸ omega arith ▸ omega arith ▸
+      omega arith ▸ omega arith ▸ omega arith ▸ omega arith ▸ omega arith ▸
+      omega arith ▸ omega arith ▸ omega arith ▸ omega arith ▸ omega arith ▸
+      omega arith ▸ omega arith ▸ omega arith ▸ omega arith ▸ tt
 
   no_image : Each (λ i w. w ≢ word_alone def.Image) 0 (later_words cat.program)
   no_image =
-      let low : 13 ≤ main_class cat.program = main_small.0 in (
-        λ z. omega arith,
-        (
-          λ z. omega arith,
-          (
-            λ z. omega arith,
-            (
-              λ z. omega arith,
-              (
-                λ z. omega arith,
-                (
-                  λ z. omega arith,
-                  (
-                    λ z. omega arith,
-                    (
-                      λ z. omega arith,
-                      (
-                        λ z. omega arith,
-                        (
-                          λ z. omega arith,
-                          (
-                            λ z. omega arith,
-                            (
-                              λ z. omega arith,
-                              (
-                                λ z. omega arith,
-                                (
-                                  λ z. omega arith,
-                                  (
-                                    λ z. omega arith,
-                                    (λ z. omega arith, (λ z. omega arith, (λ z. omega arith, (λ z. omega arith, tt)))),
-                                  ),
-                                ),
-                              ),
-                            ),
-                          ),
-                        ),
-                      ),
-                    ),
-                  ),
-                ),
-              ),
-            ),
-          ),
-        ),
-      )
+      let low : 13 ≤ main_class cat.program = main_small.0 in
+      (λ z. omega arith) ▸ (λ z. omega arith) ▸ (λ z. omega arith) ▸ (λ z. omega arith) ▸ (λ z. omega arith) ▸
+      (λ z. omega arith) ▸ (λ z. omega arith) ▸ (λ z. omega arith) ▸ (λ z. omega arith) ▸ (λ z. omega arith) ▸
+      (λ z. omega arith) ▸ (λ z. omega arith) ▸ (λ z. omega arith) ▸ (λ z. omega arith) ▸ (λ z. omega arith) ▸
+      (λ z. omega arith) ▸ (λ z. omega arith) ▸ (λ z. omega arith) ▸ (λ z. omega arith) ▸ tt
 
   words_differ : (k l : ℕ) → k < l → l < length (leaf_words cat.program) → slice_index (leaf_words cat.program) k ≢ slice_index (leaf_words cat.program) l
   words_differ k zero less high e = absurd (omega arith)

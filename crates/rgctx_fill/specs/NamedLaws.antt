@@ -21,53 +21,16 @@ used_at [] all k less = absurd (omega arith)
 used_at (x ∷ xs) all zero less = all.0
 used_at (x ∷ xs) all (suc k) less = used_at xs all.1 k (omega arith)
 
+infixr 5 ◌▸◌
+◌▸◌ : {A B : Type 0} → A → B → A × B
+x ▸ y = (x, y)
+
 leaves_used : (program : Program) → AllByRecursion (λ w. w ≢ 0) (leaf_words program)
-leaves_used program = (
-  λ z. omega arith,
-  (
-    λ z. omega arith,
-    (
-      λ z. omega arith,
-      (
-        λ z. omega arith,
-        (
-          λ z. omega arith,
-          (
-            λ z. omega arith,
-            (
-              λ z. omega arith,
-              (
-                λ z. omega arith,
-                (
-                  λ z. omega arith,
-                  (
-                    λ z. omega arith,
-                    (
-                      λ z. omega arith,
-                      (
-                        λ z. omega arith,
-                        (
-                          λ z. omega arith,
-                          (
-                            λ z. omega arith,
-                            (
-                              λ z. omega arith,
-                              (λ z. omega arith, (λ z. omega arith, (λ z. omega arith, (λ z. omega arith, (λ z. omega arith, tt))))),
-                            ),
-                          ),
-                        ),
-                      ),
-                    ),
-                  ),
-                ),
-              ),
-            ),
-          ),
-        ),
-      ),
-    ),
-  ),
-)
+leaves_used program =
+    (λ z. omega arith) ▸ (λ z. omega arith) ▸ (λ z. omega arith) ▸ (λ z. omega arith) ▸ (λ z. omega arith) ▸
+    (λ z. omega arith) ▸ (λ z. omega arith) ▸ (λ z. omega arith) ▸ (λ z. omega arith) ▸ (λ z. omega arith) ▸
+    (λ z. omega arith) ▸ (λ z. omega arith) ▸ (λ z. omega arith) ▸ (λ z. omega arith) ▸ (λ z. omega arith) ▸
+    (λ z. omega arith) ▸ (λ z. omega arith) ▸ (λ z. omega arith) ▸ (λ z. omega arith) ▸ (λ z. omega arith) ▸ tt
 
 pub opening-used : (program : Program) (i : ℕ) → IsLeaf i → opening program i ≢ 0
 opening-used program zero leaf = absurd (omega arith)
