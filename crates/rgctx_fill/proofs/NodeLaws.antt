@@ -135,8 +135,9 @@ module _ (cat : CatData) (at : ℕ → ℕ) (fits : AreFitting cat at) where
   type_named true (tree.Zero n) t h = cc
   type_named false s t h = cc
 
-  one_type : (v w : ℕ) (t : TExpr) → naming_of at v ≡ Some t → naming_of at w ≡ Some t → v ≡ w
-  one_type v w t h k =
+  -- the naming gives no type to two numbers
+  pub naming-distinct : (v w : ℕ) (t : TExpr) → naming_of at v ≡ Some t → naming_of at w ≡ Some t → v ≡ w
+  naming-distinct v w t h k =
       let a : (nat_lt v node_count ≡ true) × (spelled at v ≡ tree.Kind t) = type_named (nat_lt v node_count) (spelled at v) t h in
       let b : (nat_lt w node_count ≡ true) × (spelled at w ≡ tree.Kind t) = type_named (nat_lt w node_count) (spelled at w) t k in
       nodes-differ v w (tree.Kind t) (let e : nat_lt v node_count ≡ true = a.0 in grind (arith, nat_tests)) (let e : nat_lt w node_count ≡ true = b.0 in grind (arith, nat_tests)) refl a.1 b.1
@@ -159,7 +160,7 @@ module _ (cat : CatData) (at : ℕ → ℕ) (fits : AreFitting cat at) where
 
   -- no entry has two values
   pub value-only : (s : NodeTree) (e : Entry) (v w : ℕ) → IsValue cat at s e v → IsValue cat at s e w → v ≡ w
-  value-only s (entry.Kind t) v w h k = one_type v w t h k
+  value-only s (entry.Kind t) v w h k = naming-distinct v w t h k
   value-only s (entry.Method number class args) v w h k = one_method (record { method = number; class = class; args = args }) v w h k
   value-only s (entry.Size t) v w h k = h ∙ sym k
   value-only s (entry.Extent t) v w h k = h ∙ sym k
