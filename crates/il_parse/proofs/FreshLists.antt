@@ -74,8 +74,8 @@ module _ {K : Type 0} (e : K → K → Bool) where
   distinct_apart met (x ∷ xs) apart d = (
     apart.0,
     distinct_apart (x ∷ met) xs
-    (all_both (λ y. e x y ≡ false) (λ y. is_met e met y ≡ false) (λ y. is_met e (x ∷ met) y ≡ false) (λ y a b. or_from (e x y) (is_met e met y) a b) xs d.0 apart.1)
-    d.1,
+        (all_both (λ y. e x y ≡ false) (λ y. is_met e met y ≡ false) (λ y. is_met e (x ∷ met) y ≡ false) (λ y a b. or_from (e x y) (is_met e met y) a b) xs d.0 apart.1)
+        d.1,
   )
 
   all_unmet : (xs : List K) → AllByRecursion (λ y. is_met e [] y ≡ false) xs

@@ -175,7 +175,7 @@ class_sound s name args all t e =
     looked (all_found [] (map (type_named s) args)) _ t e1 (λ ts e2 e3.
     let r = args_sound s [] args ts all e2 in
     class s (w.Named name args) t name args ts number refl (known_is (class_number s.names name.name) name number e0)
-        (subst (NamesTypes s args) (sym r.all) r.are) (sym (given (node (head.Class number) ts) t e3))))
+    (subst (NamesTypes s args) (sym r.all) r.are) (sym (given (node (head.Class number) ts) t e3))))
 
 vector_sound : (s : Scope) (element : WrittenType) → IsFound s element → IsFound s (w.Vector element)
 unfolding IsFound
@@ -198,6 +198,7 @@ type_sound s = holds_of_written (IsFound s)
 
 mutual
   unfolding all_found
+
   -- what the type stands for is found
   pub type_complete : (s : Scope) (written : WrittenType) (t : TExpr) → NamesType s written t → type_named s written ≡ Ok t
   type_complete s written t (int32 s' written' t' e f) = ap (type_named s) e ∙ named-int32 s ∙ ap Ok (sym f)

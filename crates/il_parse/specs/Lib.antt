@@ -15,5 +15,6 @@ pub mod NamedBodies
 pub mod SameTypes
 pub mod NamedClasses
 pub mod Answer
+pub mod Accepted
 pub mod Lines
 pub mod Calls

@@ -8,6 +8,7 @@ mod classes;
 mod cursor;
 mod fault;
 mod forms;
+mod laws;
 mod library;
 mod lines;
 mod literals;
@@ -19,3 +20,4 @@ mod types;
 
 pub use answer::{Parsed, Spots};
 pub use fault::{ParseCause, ParseFault};
+pub use laws::{names_give_one_program, texts_give_one_answer};
