@@ -51,6 +51,7 @@ mod SameSignatures
 mod MethodsNamed
 mod OwnedMethods
 mod EntryPoints
+mod ClassNamed
 mod ClassesNamed
 mod ProgramsNamed
 mod TextKinds

@@ -21,156 +21,57 @@ is_made f o own made form operand e = record { form = ap form_of (sym (some_is o
 
 from_nothing : (f : Form) (own : Op) → form_of own ≡ f → operand_of own ≡ nothing → (o : Operand) (made : Op) → with_nothing own o ≡ Some made → IsMadeOf f o made
 from_nothing f own form operand nothing made e = is_made f nothing own made form operand e
-from_nothing f own form operand (int32 x) made e = none_is made e
-from_nothing f own form operand (int64 x) made e = none_is made e
-from_nothing f own form operand (literal x) made e = none_is made e
-from_nothing f own form operand (place x) made e = none_is made e
-from_nothing f own form operand (target x) made e = none_is made e
-from_nothing f own form operand (targets x) made e = none_is made e
-from_nothing f own form operand (type x) made e = none_is made e
-from_nothing f own form operand (method x) made e = none_is made e
-from_nothing f own form operand (field x) made e = none_is made e
-from_nothing f own form operand (constrained t m) made e = none_is made e
+from_nothing f own form operand _ made e = none_is made e
 
 from_int32 : (f : Form) (make : ℤ → Op) → ((x : ℤ) → form_of (make x) ≡ f) → ((x : ℤ) → operand_of (make x) ≡ int32 x) → (o : Operand) (made : Op) →
     with_int32 make o ≡ Some made → IsMadeOf f o made
-from_int32 f make form operand nothing made e = none_is made e
 from_int32 f make form operand (int32 x) made e = is_made f (int32 x) (make x) made (form x) (operand x) e
-from_int32 f make form operand (int64 x) made e = none_is made e
-from_int32 f make form operand (literal x) made e = none_is made e
-from_int32 f make form operand (place x) made e = none_is made e
-from_int32 f make form operand (target x) made e = none_is made e
-from_int32 f make form operand (targets x) made e = none_is made e
-from_int32 f make form operand (type x) made e = none_is made e
-from_int32 f make form operand (method x) made e = none_is made e
-from_int32 f make form operand (field x) made e = none_is made e
-from_int32 f make form operand (constrained t m) made e = none_is made e
+from_int32 f make form operand _ made e = none_is made e
 
 from_int64 : (f : Form) (make : ℤ → Op) → ((x : ℤ) → form_of (make x) ≡ f) → ((x : ℤ) → operand_of (make x) ≡ int64 x) → (o : Operand) (made : Op) →
     with_int64 make o ≡ Some made → IsMadeOf f o made
-from_int64 f make form operand nothing made e = none_is made e
-from_int64 f make form operand (int32 x) made e = none_is made e
 from_int64 f make form operand (int64 x) made e = is_made f (int64 x) (make x) made (form x) (operand x) e
-from_int64 f make form operand (literal x) made e = none_is made e
-from_int64 f make form operand (place x) made e = none_is made e
-from_int64 f make form operand (target x) made e = none_is made e
-from_int64 f make form operand (targets x) made e = none_is made e
-from_int64 f make form operand (type x) made e = none_is made e
-from_int64 f make form operand (method x) made e = none_is made e
-from_int64 f make form operand (field x) made e = none_is made e
-from_int64 f make form operand (constrained t m) made e = none_is made e
+from_int64 f make form operand _ made e = none_is made e
 
 from_literal : (f : Form) (make : ℕ → Op) → ((x : ℕ) → form_of (make x) ≡ f) → ((x : ℕ) → operand_of (make x) ≡ literal x) → (o : Operand) (made : Op) →
     with_literal make o ≡ Some made → IsMadeOf f o made
-from_literal f make form operand nothing made e = none_is made e
-from_literal f make form operand (int32 x) made e = none_is made e
-from_literal f make form operand (int64 x) made e = none_is made e
 from_literal f make form operand (literal x) made e = is_made f (literal x) (make x) made (form x) (operand x) e
-from_literal f make form operand (place x) made e = none_is made e
-from_literal f make form operand (target x) made e = none_is made e
-from_literal f make form operand (targets x) made e = none_is made e
-from_literal f make form operand (type x) made e = none_is made e
-from_literal f make form operand (method x) made e = none_is made e
-from_literal f make form operand (field x) made e = none_is made e
-from_literal f make form operand (constrained t m) made e = none_is made e
+from_literal f make form operand _ made e = none_is made e
 
 from_place : (f : Form) (make : ℕ → Op) → ((x : ℕ) → form_of (make x) ≡ f) → ((x : ℕ) → operand_of (make x) ≡ place x) → (o : Operand) (made : Op) →
     with_place make o ≡ Some made → IsMadeOf f o made
-from_place f make form operand nothing made e = none_is made e
-from_place f make form operand (int32 x) made e = none_is made e
-from_place f make form operand (int64 x) made e = none_is made e
-from_place f make form operand (literal x) made e = none_is made e
 from_place f make form operand (place x) made e = is_made f (place x) (make x) made (form x) (operand x) e
-from_place f make form operand (target x) made e = none_is made e
-from_place f make form operand (targets x) made e = none_is made e
-from_place f make form operand (type x) made e = none_is made e
-from_place f make form operand (method x) made e = none_is made e
-from_place f make form operand (field x) made e = none_is made e
-from_place f make form operand (constrained t m) made e = none_is made e
+from_place f make form operand _ made e = none_is made e
 
 from_target : (f : Form) (make : ℕ → Op) → ((x : ℕ) → form_of (make x) ≡ f) → ((x : ℕ) → operand_of (make x) ≡ target x) → (o : Operand) (made : Op) →
     with_target make o ≡ Some made → IsMadeOf f o made
-from_target f make form operand nothing made e = none_is made e
-from_target f make form operand (int32 x) made e = none_is made e
-from_target f make form operand (int64 x) made e = none_is made e
-from_target f make form operand (literal x) made e = none_is made e
-from_target f make form operand (place x) made e = none_is made e
 from_target f make form operand (target x) made e = is_made f (target x) (make x) made (form x) (operand x) e
-from_target f make form operand (targets x) made e = none_is made e
-from_target f make form operand (type x) made e = none_is made e
-from_target f make form operand (method x) made e = none_is made e
-from_target f make form operand (field x) made e = none_is made e
-from_target f make form operand (constrained t m) made e = none_is made e
+from_target f make form operand _ made e = none_is made e
 
 from_targets : (f : Form) (make : List ℕ → Op) → ((x : List ℕ) → form_of (make x) ≡ f) → ((x : List ℕ) → operand_of (make x) ≡ targets x) → (o : Operand) (made : Op) →
     with_targets make o ≡ Some made → IsMadeOf f o made
-from_targets f make form operand nothing made e = none_is made e
-from_targets f make form operand (int32 x) made e = none_is made e
-from_targets f make form operand (int64 x) made e = none_is made e
-from_targets f make form operand (literal x) made e = none_is made e
-from_targets f make form operand (place x) made e = none_is made e
-from_targets f make form operand (target x) made e = none_is made e
 from_targets f make form operand (targets x) made e = is_made f (targets x) (make x) made (form x) (operand x) e
-from_targets f make form operand (type x) made e = none_is made e
-from_targets f make form operand (method x) made e = none_is made e
-from_targets f make form operand (field x) made e = none_is made e
-from_targets f make form operand (constrained t m) made e = none_is made e
+from_targets f make form operand _ made e = none_is made e
 
 from_type : (f : Form) (make : TExpr → Op) → ((x : TExpr) → form_of (make x) ≡ f) → ((x : TExpr) → operand_of (make x) ≡ type x) → (o : Operand) (made : Op) →
     with_type make o ≡ Some made → IsMadeOf f o made
-from_type f make form operand nothing made e = none_is made e
-from_type f make form operand (int32 x) made e = none_is made e
-from_type f make form operand (int64 x) made e = none_is made e
-from_type f make form operand (literal x) made e = none_is made e
-from_type f make form operand (place x) made e = none_is made e
-from_type f make form operand (target x) made e = none_is made e
-from_type f make form operand (targets x) made e = none_is made e
 from_type f make form operand (type x) made e = is_made f (type x) (make x) made (form x) (operand x) e
-from_type f make form operand (method x) made e = none_is made e
-from_type f make form operand (field x) made e = none_is made e
-from_type f make form operand (constrained t m) made e = none_is made e
+from_type f make form operand _ made e = none_is made e
 
 from_method : (f : Form) (make : MRef → Op) → ((x : MRef) → form_of (make x) ≡ f) → ((x : MRef) → operand_of (make x) ≡ method x) → (o : Operand) (made : Op) →
     with_method make o ≡ Some made → IsMadeOf f o made
-from_method f make form operand nothing made e = none_is made e
-from_method f make form operand (int32 x) made e = none_is made e
-from_method f make form operand (int64 x) made e = none_is made e
-from_method f make form operand (literal x) made e = none_is made e
-from_method f make form operand (place x) made e = none_is made e
-from_method f make form operand (target x) made e = none_is made e
-from_method f make form operand (targets x) made e = none_is made e
-from_method f make form operand (type x) made e = none_is made e
 from_method f make form operand (method x) made e = is_made f (method x) (make x) made (form x) (operand x) e
-from_method f make form operand (field x) made e = none_is made e
-from_method f make form operand (constrained t m) made e = none_is made e
+from_method f make form operand _ made e = none_is made e
 
 from_field : (f : Form) (make : FRef → Op) → ((x : FRef) → form_of (make x) ≡ f) → ((x : FRef) → operand_of (make x) ≡ field x) → (o : Operand) (made : Op) →
     with_field make o ≡ Some made → IsMadeOf f o made
-from_field f make form operand nothing made e = none_is made e
-from_field f make form operand (int32 x) made e = none_is made e
-from_field f make form operand (int64 x) made e = none_is made e
-from_field f make form operand (literal x) made e = none_is made e
-from_field f make form operand (place x) made e = none_is made e
-from_field f make form operand (target x) made e = none_is made e
-from_field f make form operand (targets x) made e = none_is made e
-from_field f make form operand (type x) made e = none_is made e
-from_field f make form operand (method x) made e = none_is made e
 from_field f make form operand (field x) made e = is_made f (field x) (make x) made (form x) (operand x) e
-from_field f make form operand (constrained t m) made e = none_is made e
+from_field f make form operand _ made e = none_is made e
 
 from_constrained : (f : Form) (make : TExpr → MRef → Op) → ((t : TExpr) (m : MRef) → form_of (make t m) ≡ f) → ((t : TExpr) (m : MRef) → operand_of (make t m) ≡ constrained t m) →
     (o : Operand) (made : Op) → with_constrained make o ≡ Some made → IsMadeOf f o made
-from_constrained f make form operand nothing made e = none_is made e
-from_constrained f make form operand (int32 x) made e = none_is made e
-from_constrained f make form operand (int64 x) made e = none_is made e
-from_constrained f make form operand (literal x) made e = none_is made e
-from_constrained f make form operand (place x) made e = none_is made e
-from_constrained f make form operand (target x) made e = none_is made e
-from_constrained f make form operand (targets x) made e = none_is made e
-from_constrained f make form operand (type x) made e = none_is made e
-from_constrained f make form operand (method x) made e = none_is made e
-from_constrained f make form operand (field x) made e = none_is made e
 from_constrained f make form operand (constrained t m) made e = is_made f (constrained t m) (make t m) made (form t m) (operand t m) e
+from_constrained f make form operand _ made e = none_is made e
 
 -- what is made of a form and an operand has both
 pub op_made : (f : Form) (o : Operand) (made : Op) → op_of f o ≡ Some made → IsMadeOf f o made

@@ -18,7 +18,8 @@ use Rattle.il_parse.proofs.PlacesNamed.{first_distinct, all_used}
 use Rattle.il_parse.proofs.SameSignatures.{alike_in_class, alike-Decides}
 use Rattle.il_parse.proofs.OwnedMethods.{pairs_from_distinct, distinct_from_pairs}
 use Rattle.il_parse.proofs.EntryPoints.{once_few, few_once}
-use Rattle.il_parse.proofs.ClassesNamed.{HasTextKind, own_names, classes_sound, classes_complete}
+use Rattle.il_parse.proofs.ClassNamed.{HasTextKind}
+use Rattle.il_parse.proofs.ClassesNamed.{own_names, classes_sound, classes_complete}
 
 -- the names of the library's classes, in plain spelling
 abbrev library_names : List (List ℕ)

@@ -8,7 +8,7 @@ use Rattle.il_model.specs.Lexemes.{Lexeme, none, more}
 use Rattle.il_model.specs.Words.{kind_words}
 use Rattle.il_model.specs.Classes.{IsKind, plain, worded, IsClass, class, IsProgram}
 use Rattle.il_parse.proofs.Finding.{all_contains}
-use Rattle.il_parse.proofs.ClassesNamed.{HasTextKind}
+use Rattle.il_parse.proofs.ClassNamed.{HasTextKind}
 
 words_of_text : AllByRecursion (λ (row : List ℕ × ClassKind). ¬ (row.1 ≡ kind.Delegate)) kind_words
 words_of_text = ((λ e. cc), ((λ e. cc), ((λ e. cc), tt)))

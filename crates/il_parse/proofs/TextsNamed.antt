@@ -27,8 +27,9 @@ use Rattle.il_parse.specs.Answer.{spot_of, spots_of, short_enough, answer_with, 
 use Rattle.il_parse.proofs.Finding.{some_is}
 use Rattle.il_parse.proofs.LookSteps.{refused, given, looked}
 use Rattle.il_parse.proofs.TextsSound.{text_sound}
+use Rattle.il_parse.proofs.TextsComplete.{written_is_read, written_once}
 use Rattle.il_parse.proofs.TextKinds.{kinds_of_text}
-use Rattle.il_parse.proofs.ProgramsNamed.{program_sound, program_complete}
+use Rattle.il_parse.proofs.ProgramsNamed.{program_sound, program_complete, program_unique}
 
 abbrev is_ok : Result Parsed ParseFault → Bool
 is_ok (Ok a) = true
@@ -102,32 +103,35 @@ parses_once text r q (unreadable f e) (readable tokens are) = absurd (no_tokens 
 parses_once text r q (readable tokens are) (unreadable f e) = absurd (no_tokens text tokens f e are)
 parses_once text r q (readable tokens are) (readable others too) = ap (parsed text) (one_reading text others tokens too are)
 
--- where what a text spells is read of its tokens, a text that is a program gives it
+-- a text that is a program gives it
 
 short_is : (most len : ℕ) (p : Program) (f : Fault) → len ≤ most → (if nat_le len most then Ok p else Err f) ≡ Ok p
 short_is most len p f short = ap (λ b. if b then Ok p else Err f) (le-leb len most short)
 
-module _ (is_read : (text : List ℕ) (classes : List WrittenClass) → IsWritten text classes → (tokens : List Token) → AreTokens text tokens →
-    read_program (lexemes_of text tokens) ≡ Ok classes) where
-  program_parses : (text : List ℕ) (classes : List WrittenClass) (p : Program) → IsProgramText text classes p →
-      Parses text (Ok (record { program = p; spots = spots_of text classes }))
-  unfolding parsed
-  program_parses text classes p is =
-      let w = is.written in
-      subst (Parses text)
-      (ap (answer_for text) (is_read text classes w w.tokens w.are_tokens)
-      ∙ ap (λ (x : Look Program). answer_with text classes (x >>= short_enough)) (program_complete classes p is.named)
-      ∙ ap (answer_with text classes) (short_is 4194304 (canonical_len p) p (record { at = None; cause = cause.Text TooLong }) is.short))
-      (readable w.tokens w.are_tokens)
+program_parses : (text : List ℕ) (classes : List WrittenClass) (p : Program) → IsProgramText text classes p →
+    Parses text (Ok (record { program = p; spots = spots_of text classes }))
+unfolding parsed
+program_parses text classes p is =
+    let w = is.written in
+    subst (Parses text)
+    (ap (answer_for text) (written_is_read text classes w w.tokens w.are_tokens)
+    ∙ ap (λ (x : Look Program). answer_with text classes (x >>= short_enough)) (program_complete classes p is.named)
+    ∙ ap (answer_with text classes) (short_is 4194304 (canonical_len p) p (record { at = None; cause = cause.Text TooLong }) is.short))
+    (readable w.tokens w.are_tokens)
 
-  pub accepted_parses : (text : List ℕ) (a : Parsed) → IsAccepted text a → Parses text (Ok a)
-  accepted_parses text a accepted =
-      subst (λ (x : List Spots). Parses text (Ok (record { program = a.program; spots = x }))) (sym accepted.spots)
-      (program_parses text accepted.classes a.program accepted.is)
+pub accepted_parses : (text : List ℕ) (a : Parsed) → IsAccepted text a → Parses text (Ok a)
+accepted_parses text a accepted =
+    subst (λ (x : List Spots). Parses text (Ok (record { program = a.program; spots = x }))) (sym accepted.spots)
+    (program_parses text accepted.classes a.program accepted.is)
 
-  -- what a text gives says whether it is that of a program, and of which
-  pub parses_says : (text : List ℕ) (r : Result Parsed ParseFault) → Parses text r → Says text r
-  parses_says text (Ok a) parses = accepted_sound text a parses
-  parses_says text (Err f) parses = λ classes p is.
-      no_answer f (record { program = p; spots = spots_of text classes })
-      (parses_once text (Err f) (Ok (record { program = p; spots = spots_of text classes })) parses (program_parses text classes p is))
+-- what a text gives says whether it is that of a program, and of which
+pub parses_says : (text : List ℕ) (r : Result Parsed ParseFault) → Parses text r → Says text r
+parses_says text (Ok a) parses = accepted_sound text a parses
+parses_says text (Err f) parses = λ classes p is.
+    no_answer f (record { program = p; spots = spots_of text classes })
+    (parses_once text (Err f) (Ok (record { program = p; spots = spots_of text classes })) parses (program_parses text classes p is))
+
+-- a text is one program at most
+pub one_program : (text : List ℕ) (some others : List WrittenClass) (p q : Program) → IsProgramText text some p → IsProgramText text others q → p ≡ q
+one_program text some others p q a b =
+    program_unique some p q a.named (subst (λ cs. NamesProgram cs q) (sym (written_once text some others a.written b.written)) b.named)

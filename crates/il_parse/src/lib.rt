@@ -20,4 +20,4 @@ mod types;
 
 pub use answer::{Parsed, Spots};
 pub use fault::{ParseCause, ParseFault};
-pub use laws::{names_give_one_program, texts_give_one_answer};
+pub use laws::{names_give_one_program, texts_give_one_answer, written_texts_are_read};
