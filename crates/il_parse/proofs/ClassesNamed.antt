@@ -1,6 +1,7 @@
 -- The classes of a text stand for just what their look-up finds, one behind the other.
-use Rattle.std.proofs.Common.{◌≡◌, ℕ, ◌+◌, Bool, true, false, ◌||◌, List, [], ◌∷◌, ◌++◌, length, map, flat_map, Ok, refl, sym, ap, subst, ◌∙◌, append_assoc, append-nil, bytes_eq, arith, length-append}
+use Rattle.std.proofs.Common.{◌≡◌, ℕ, ◌+◌, true, List, [], ◌∷◌, ◌++◌, length, map, flat_map, Ok, refl, sym, ap, subst, ◌∙◌, append_assoc, append-nil, bytes_eq, arith, length-append}
 use Rattle.std.specs.List.{AllByRecursion, IsDistinct}
+use Rattle.std.proofs.Math.Bool.{or_comm}
 use Rattle.std.proofs.lemmas.Grind.{flat_map-append}
 use Rattle.std.proofs.lemmas.List.Folds.{list_any-append}
 use Rattle.il_model.specs.declared.class.ClassDef.{ClassDef}
@@ -57,15 +58,9 @@ before_next number [] [] before owned = tt
 before_next number [] (d ∷ ds) before owned = (omega (arith, owned.0), before_next number [] ds before owned.1)
 before_next number (a ∷ met) ds before owned = (omega (arith, before.0), before_next number met ds before.1 owned)
 
-or_flip : (a b : Bool) → (a || b) ≡ (b || a)
-or_flip true true = refl
-or_flip true false = refl
-or_flip false true = refl
-or_flip false false = refl
-
 met-swap : (xs ys : List MethodDef) (d : MethodDef) → is_met alike_in_class (xs ++ ys) d ≡ is_met alike_in_class (ys ++ xs) d
 met-swap xs ys d =
-    list_any-append (λ a. alike_in_class a d) xs ys ∙ or_flip (is_met alike_in_class xs d) (is_met alike_in_class ys d) ∙ sym (list_any-append (λ a. alike_in_class a d) ys xs)
+    list_any-append (λ a. alike_in_class a d) xs ys ∙ or_comm (is_met alike_in_class xs d) (is_met alike_in_class ys d) ∙ sym (list_any-append (λ a. alike_in_class a d) ys xs)
 
 -- one class and those behind it
 classes_joined : (known : Known) (g : Gathered) (c : WrittenClass) (def : ClassDef) (ds : List MethodDef) (cs : List WrittenClass) (own : List ClassDef) (es : List MethodDef) →

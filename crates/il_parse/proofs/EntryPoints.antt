@@ -1,5 +1,6 @@
 -- Entry points: one method at most has one.
-use Rattle.std.proofs.Common.{◌≡◌, ℕ, suc, ◌+◌, ◌≤◌, Bool, true, false, ◌&&◌, ◌||◌, is_some, List, [], ◌∷◌, ◌++◌, length, map, flat_map, Option, Some, None, option_to_list, option_and_then, refl, ap, ◌∙◌, arith, length-append}
+use Rattle.std.proofs.Common.{◌≡◌, ℕ, ◌+◌, ◌≤◌, Bool, true, false, ◌&&◌, ◌||◌, is_some, List, [], ◌∷◌, ◌++◌, length, map, flat_map, Option, Some, None, option_to_list, option_and_then, refl, ap, ◌∙◌, arith, length-append}
+use Rattle.std.proofs.lemmas.List.{length-map}
 use Rattle.il_model.specs.declared.written.WrittenBody.{WrittenBody}
 use Rattle.il_model.specs.declared.written.WrittenMethod.{WrittenMethod}
 use Rattle.il_model.specs.LookUp.{has_entry, entries_from}
@@ -27,15 +28,11 @@ body_count : (o : Option WrittenBody) → length (flat_map (λ b. option_to_list
 body_count None = refl
 body_count (Some b) = entry_count b.entry
 
-length-same : {X Y : Type 0} (f : X → Y) (xs : List X) → length (map f xs) ≡ length xs
-length-same f [] = refl
-length-same f (x ∷ xs) = ap suc (length-same f xs)
-
 entries_count : (number : ℕ) (m : WrittenMethod) (ms : List WrittenMethod) →
     length (entries_from number (m ∷ ms)) ≡ count (has_entry_point m) + length (entries_from (number + 1) ms)
 entries_count number m ms =
     length-append (map (λ at. number) (has_entry m)) (entries_from (number + 1) ms)
-    ∙ ap (λ n. n + length (entries_from (number + 1) ms)) (length-same (λ at. number) (has_entry m) ∙ body_count m.body)
+    ∙ ap (λ n. n + length (entries_from (number + 1) ms)) (length-map (has_entry m) (λ at. number) ∙ body_count m.body)
 
 count_either : (a b : Bool) → (a && b) ≡ false → count (a || b) ≡ count a + count b
 count_either true true e = cc

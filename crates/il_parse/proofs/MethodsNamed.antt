@@ -1,5 +1,6 @@
 -- Methods and fields stand for just what their look-up finds.
 use Rattle.std.proofs.Common.{◌≡◌, ℕ, Bool, true, false, ◌&&◌, ◌||◌, is_some, List, [], ◌∷◌, ◌++◌, length, map, flat_map, Option, Some, None, option_to_list, option_and_then, Ok, refl, sym, ap, subst, ◌∙◌, append_assoc, append-nil, bytes_eq}
+use Rattle.std.proofs.Math.Bool.{and-false}
 use Rattle.std.specs.List.{list_any, IsDistinct}
 use Rattle.il_model.specs.declared.class.FieldDef.{FieldDef}
 use Rattle.il_model.specs.declared.method.Shape.{Shape}
@@ -33,10 +34,6 @@ once_sound false at u e = refl
 pub once_complete : (is_met : Bool) (at : ℕ) → is_met ≡ false → once is_met at ≡ Ok tt
 once_complete is_met at e = ap (λ b. once b at) e
 
-and_none : (b : Bool) → (b && false) ≡ false
-and_none true = refl
-and_none false = refl
-
 -- bodies that may be missing
 
 some_texts : (literals : List (List ℕ)) (o : Option WrittenBody) (b : WrittenBody) → o ≡ Some b → AreLiterals literals (flat_map texts_of_body (option_to_list o)) →
@@ -52,7 +49,7 @@ perhaps_body_sound s literals begun o p texts e =
 perhaps_body_once : (s : Scope) (literals : List (List ℕ)) (begun : Bool) (o : Option WrittenBody) (p : Option Body) →
     AreLiterals literals (flat_map texts_of_body (option_to_list o)) → perhaps_of (body_named s literals begun) o ≡ Ok p →
     (begun && is_some (option_and_then (λ b. b.entry) o)) ≡ false
-perhaps_body_once s literals begun None p texts e = and_none begun
+perhaps_body_once s literals begun None p texts e = and-false begun
 perhaps_body_once s literals begun (Some b) p texts e =
     looked (body_named s literals begun b) _ p e (λ d e0 e1. (body_sound s literals begun b d (some_texts literals (Some b) b refl texts) e0).once)
 

@@ -1,9 +1,10 @@
 -- Methods of one signature: in one class, and in a whole program.
-use Rattle.std.proofs.Common.{◌≡◌, ℕ, suc, ◌<◌, ◌==◌, ◌||◌, Bool, true, false, List, [], ◌∷◌, ◌++◌, refl, sym, ap, ◌∙◌, arith, All, AllPairs}
+use Rattle.std.proofs.Common.{◌≡◌, ℕ, suc, ◌<◌, ◌==◌, ◌||◌, Bool, true, false, List, [], ◌∷◌, ◌++◌, refl, sym, ap, ◌∙◌, arith, AllPairs}
 use Rattle.std.specs.Bool.{Decides}
 use Rattle.std.specs.List.{AllByRecursion, IsDistinct}
 use Rattle.std.proofs.lemmas.Bool.{true≢false, or_parts, or_from, eq-eqb, ne_eqb}
 use Rattle.std.proofs.lemmas.List.Folds.{list_any-append}
+use Rattle.std.proofs.lemmas.List.Elements.{recursion_from_All}
 use Rattle.std.proofs.lemmas.List.Kept.{AllPairs-cons}
 use Rattle.il_model.specs.declared.method.MethodDef.{MethodDef}
 use Rattle.il_parse.proofs.Finding.{all_of, all_map}
@@ -21,10 +22,6 @@ pairs_from_distinct e S decides (x ∷ xs) distinct =
     (all_of (λ y. ¬ (S x y)) xs (all_map (λ y. e x y ≡ false) (λ y. ¬ (S x y)) (λ y fails holds. true≢false (sym ((decides x y).1 holds) ∙ fails)) xs distinct.0))
     (pairs_from_distinct e S decides xs distinct.1)
 
-all_again : {X : Type 0} (P : X → Type 0) (xs : List X) → All P xs → AllByRecursion P xs
-all_again P [] all = tt
-all_again P (x ∷ xs) all = (all 0 x (omega arith), all_again P xs (λ k d inside. all (suc k) d (omega (arith, inside))))
-
 fails_unless : (b : Bool) {S : Type 0} → Decides b S → ¬ S → b ≡ false
 fails_unless true d fails = absurd (fails (d.0 refl))
 fails_unless false d fails = refl
@@ -35,7 +32,7 @@ unfolding IsDistinct
 distinct_from_pairs e S decides [] pairs = tt
 distinct_from_pairs e S decides (x ∷ xs) pairs = (
   all_map (λ y. ¬ (S x y)) (λ y. e x y ≡ false) (λ y fails. fails_unless (e x y) (decides x y) fails) xs
-      (all_again (λ y. ¬ (S x y)) xs (λ k d inside. pairs 0 (suc k) d (omega arith) (omega (arith, inside)))),
+      (recursion_from_All (λ y. ¬ (S x y)) xs (λ k d inside. pairs 0 (suc k) d (omega arith) (omega (arith, inside)))),
   distinct_from_pairs e S decides xs (λ i j d before inside. pairs (suc i) (suc j) d (omega (arith, before)) (omega (arith, inside))),
 )
 

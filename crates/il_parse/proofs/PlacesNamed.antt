@@ -1,7 +1,7 @@
 -- Labels and literals stand for just the numbers that their look-up finds, where they differ from each other.
 use Rattle.std.proofs.Common.{◌≡◌, ℕ, zero, suc, ◌<◌, Bool, true, false, cond, ◌||◌, List, [], ◌∷◌, length, map, Some, None, Ok, refl, sym, ap, subst, ◌∙◌, bytes_eq, inl, inr, arith, one-add, slice_get, find, option_map, Contains, position}
 use Rattle.std.specs.List.{AllByRecursion, IsDistinct, list_any, position_or_len}
-use Rattle.std.proofs.lemmas.Bool.{true≢false, cases_Bool, lt-ltb}
+use Rattle.std.proofs.lemmas.Bool.{true≢false, cases_Bool, or_left, or_right, lt-ltb}
 use Rattle.std.proofs.lemmas.Bool.Decides.{same_from_decides, Decides-like}
 use Rattle.std.proofs.lemmas.Slice.Eq.{bytes_eq-Decides}
 use Rattle.il_model.specs.declared.written.WrittenName.{WrittenName}
@@ -133,9 +133,6 @@ or_moved true false c e = refl
 or_moved false true c e = refl
 or_moved false false c e = e
 
-or_first : (a b : Bool) → a ≡ true → (a || b) ≡ true
-or_first a b e = ap (λ x. x || b) e
-
 -- each text is among those met before or the first uses
 uses : (met texts : List (List ℕ)) → AllByRecursion (λ t. (is_among met t || is_among (first_uses met texts) t) ≡ true) texts
 uses met [] = tt
@@ -144,20 +141,16 @@ uses met (text ∷ texts) =
       | inl hit ↦
           let same : first_uses met (text ∷ texts) ≡ first_uses met texts = rw hit refl in
           subst (λ us. AllByRecursion (λ t. (is_among met t || is_among us t) ≡ true) (text ∷ texts)) (sym same)
-          (or_first (is_among met text) (is_among (first_uses met texts) text) hit, uses met texts)
+          (or_left (is_among met text) (is_among (first_uses met texts) text) hit, uses met texts)
       | inr miss ↦
           let later : List (List ℕ) = first_uses (text ∷ met) texts in
           let same : first_uses met (text ∷ texts) ≡ text ∷ later = rw miss refl in
           subst (λ us. AllByRecursion (λ t. (is_among met t || is_among us t) ≡ true) (text ∷ texts)) (sym same) (
-            or_later (is_among met text) (bytes_eq text text) (is_among later text) (same_bytes text),
+            or_right (is_among met text) (is_among (text ∷ later) text) (or_left (bytes_eq text text) (is_among later text) (same_bytes text)),
             all_map (λ t. (is_among (text ∷ met) t || is_among later t) ≡ true) (λ t. (is_among met t || is_among (text ∷ later) t) ≡ true)
                 (λ t e. or_moved (bytes_eq text t) (is_among met t) (is_among later t) e) texts (uses (text ∷ met) texts),
           )
     ]
-  where
-    or_later : (a b c : Bool) → b ≡ true → (a || (b || c)) ≡ true
-    or_later true b c e = refl
-    or_later false b c e = ap (λ x. x || c) e
 
 pub all_used : (texts : List (List ℕ)) → AllByRecursion (λ t. is_among (first_uses [] texts) t ≡ true) texts
 all_used texts = uses [] texts
