@@ -33,9 +33,9 @@ pub fn names_give_one_program()
     ensures one { (classes : List WrittenClass) (p q : Program) → NamesProgram classes p → NamesProgram classes q → p ≡ q }
 {}
 
-/// What a text gives is one answer. It is a program with its places exactly where the text is accepted
-/// as that program by the model's relations, and a refusal says that the text is that of none; a text is
-/// one program at most. A law alone: it does nothing.
+/// A text gives one answer at most. It gives a program with its places exactly where it is accepted as
+/// that program by the model's relations, and a refusal only where it is accepted as none; a text is one
+/// program at most. A law alone: it does nothing.
 pub fn texts_give_one_answer()
     ensures one { (text : List ℕ) (r q : Result Parsed ParseFault) → Parses text r → Parses text q → r ≡ q }
     ensures says { (text : List ℕ) (r : Result Parsed ParseFault) → Parses text r → Says text r }
