@@ -10,3 +10,7 @@ pub mod SearchLemmas
 pub mod DefinitionLemmas
 pub mod SignatureLemmas
 pub mod NumberingLemmas
+pub mod SizingLemmas
+pub mod OpeningLemmas
+pub mod AdmissionLemmas
+pub mod LayingLemmas

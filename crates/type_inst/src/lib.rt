@@ -1,27 +1,34 @@
 //! What is asked of types, with and without variables: bases, interfaces, assignability and slots.
 #![tactic(auto)]
 
+mod admission;
 mod ascent;
 mod assignability;
 mod classes;
 mod closure;
 mod definitions;
 mod equality;
+mod fields;
 mod implementing;
+mod laying;
 mod limited;
 mod matching;
 mod method_trees;
 mod numbering;
+mod opening;
 mod placing;
 mod signatures;
+mod sizing;
 mod slotting;
 mod steps;
 #[cfg(test)]
 mod tests;
 
+pub use admission::admitted;
 pub use ascent::bases;
 pub use assignability::assignable;
 pub use il_model::{Layout, Limit, MethodTree};
 pub use implementing::interfaces;
+pub use laying::layout;
 pub use numbering::implementation;
 pub use placing::slots;

@@ -107,7 +107,11 @@ pub(crate) fn kinds_at(
 }
 
 // Those that are value types.
-fn values(alloc: Global, program: &Program, kinds: &[TExpr]) -> Result<Items<TExpr>, NoMemory>
+pub(crate) fn values(
+    alloc: Global,
+    program: &Program,
+    kinds: &[TExpr],
+) -> Result<Items<TExpr>, NoMemory>
     ensures { IfOk result (λ all. all ≡ filter (is_value program.now) kinds.now) }
 {
     let mut all: Items<TExpr> = Items::new(alloc);
