@@ -1,4 +1,4 @@
-//! What is asked of types, with and without variables: bases, interfaces, assignability and slots.
+//! What is asked of types, with and without variables: bases, interfaces, assignability, slots, layouts and limits.
 #![tactic(auto)]
 
 mod admission;
@@ -26,9 +26,12 @@ mod tests;
 
 pub use admission::admitted;
 pub use ascent::bases;
-pub use assignability::assignable;
+pub use assignability::{assignable, element_of};
+pub use classes::{arguments_of, base_of, is_reference, with_args_of};
+pub use equality::{is_among, is_same};
 pub use il_model::{Layout, Limit, MethodTree};
 pub use implementing::interfaces;
 pub use laying::layout;
 pub use numbering::implementation;
 pub use placing::slots;
+pub use steps::{has_count, is_struct, is_value};

@@ -136,8 +136,8 @@ fn counted(alloc: Global, program: &Program, kinds: &[TExpr]) -> Result<Items<TE
     Ok(all)
 }
 
-// Whether a type has as many arguments as its head wants, its class being one of the program.
-fn has_count(program: &Program, kind: &TExpr) -> bool
+/// Whether a type has as many arguments as its head wants, its class being one of the program.
+pub fn has_count(program: &Program, kind: &TExpr) -> bool
     ensures { result ≡ has_count program.now kind.now }
 {
     match kind.top() {
@@ -172,8 +172,8 @@ fn is_struct_kind(kind: ClassKind) -> bool
     }
 }
 
-// Whether the class of a type is a struct.
-pub(crate) fn is_struct(program: &Program, kind: &TExpr) -> bool
+/// Whether the class of a type is a struct.
+pub fn is_struct(program: &Program, kind: &TExpr) -> bool
     ensures { result ≡ is_struct_class (class_of program.now kind.now) }
 {
     match class_of(program, kind) {
@@ -182,8 +182,8 @@ pub(crate) fn is_struct(program: &Program, kind: &TExpr) -> bool
     }
 }
 
-// Whether a type is a value type.
-pub(crate) fn is_value(program: &Program, kind: &TExpr) -> bool
+/// Whether a type is a value type: a scalar or a struct. A variable is none.
+pub fn is_value(program: &Program, kind: &TExpr) -> bool
     ensures { result ≡ is_value program.now kind.now }
 {
     match kind.top() {
