@@ -1,12 +1,11 @@
 -- Which types are too wide, by their words cut to a cap.
-use Rattle.std.proofs.Common.{◌≡◌, ℕ, suc, ◌<◌, min, Bool, true, false, cond, ◌&&◌, ◌||◌, nat_lt, List, [], ◌∷◌, map, filter, Option, Some, None, refl, sym, ap, ◌∙◌, arith}
+use Rattle.std.proofs.Common.{◌≡◌, ℕ, ◌<◌, min, Bool, true, false, cond, ◌&&◌, ◌||◌, nat_lt, List, [], ◌∷◌, map, filter, Some, None, refl, sym, ap, ◌∙◌, arith}
 use Rattle.std.specs.List.{list_any}
 use Rattle.std.proofs.lemmas.Bool.Decides.{nat_tests}
 use Rattle.type_tree.specs.declared.tree.TExpr.{TExpr}
 use Rattle.il_model.specs.declared.program.Program.{Program}
 use Rattle.il_model.specs.Kinds.{is_value}
 use Rattle.il_model.specs.Layouts.{words_of}
-use Rattle.il_model.specs.declared.layout.Limit.{Limit}
 use Rattle.il_model.specs.declared.layout.Limit.TheVariants as limit
 use Rattle.il_model.specs.Admission.{is_large, is_wide, limited_trees_of, limit_of}
 use Rattle.type_inst.specs.Reaching.{Limited}

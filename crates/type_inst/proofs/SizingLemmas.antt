@@ -7,7 +7,7 @@ use Rattle.type_tree.specs.declared.tree.TExpr.{TExpr}
 use Rattle.type_tree.specs.Positions.{positions_of}
 use Rattle.type_tree.proofs.PositionsLemmas.{positions_of-positive}
 use Rattle.il_model.specs.declared.program.Program.{Program}
-use Rattle.il_model.specs.Layouts.{parts_of, words_in, words_within, words_of, most_trees}
+use Rattle.il_model.specs.Layouts.{parts_of, words_in, words_within, most_trees}
 use Rattle.type_inst.specs.Sizing.{capped_words, seen_row, found_parts, parts_seen, IsOpened, word_in, row_words, next_round, rounds, AreSettled}
 
 -- lists that are equal once mapped are equally long

@@ -28,11 +28,7 @@ pub fn with_args_of(alloc: Global, kind: &TExpr, part: &TExpr) -> Result<TExpr, 
 }
 
 /// The base of a type: that of its class, with the type's arguments put.
-pub fn base_of(
-    alloc: Global,
-    program: &Program,
-    kind: &TExpr,
-) -> Result<Option<TExpr>, NoMemory>
+pub fn base_of(alloc: Global, program: &Program, kind: &TExpr) -> Result<Option<TExpr>, NoMemory>
     ensures { IfOk result (λ base. base ≡ base_of program.now kind.now) }
 {
     let Some(class) = class_of(program, kind) else {

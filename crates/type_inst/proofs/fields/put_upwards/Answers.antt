@@ -1,4 +1,4 @@
-use Rattle.std.proofs.Common.{◌≡◌, ◌-◌, length, refl, arith}
+use Rattle.std.proofs.Common.{◌-◌, length, refl, arith}
 use Rattle.il_model.specs.Layouts.{own_kinds_of}
 use Rattle.type_inst.proofs.LayingLemmas.{upwards_more}
 use Rattle.type_inst.proofs.fields.put_upwards.Goals as goal

@@ -1,4 +1,4 @@
-use Rattle.std.proofs.Common.{◌≡◌, ◌-◌, ◌^◌, false, nat_eq, ℕ, List, map, min, subst, sym, ap, ◌∙◌}
+use Rattle.std.proofs.Common.{◌≡◌, ◌-◌, ◌^◌, false, nat_eq, ℕ, List, map, sym, ap, ◌∙◌}
 use Rattle.std.specs.List.{list_any}
 use Rattle.il_model.specs.Layouts.{words_of}
 use Rattle.type_inst.specs.Sizing.{capped_words}

@@ -1,4 +1,4 @@
-use Rattle.std.proofs.Common.{◌≡◌, arith}
+use Rattle.std.proofs.Common.{arith}
 use Rattle.type_inst.proofs.OpeningLemmas.{extends_both, places_more}
 use Rattle.type_inst.proofs.opening.places_of.Goals as goal
 

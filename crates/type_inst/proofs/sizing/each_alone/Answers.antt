@@ -1,6 +1,5 @@
-use Rattle.std.proofs.Common.{◌≡◌, ◌<◌, ◌*◌, ℕ, List, Some, slice_get, ap, ◌∙◌, sym, arith}
+use Rattle.std.proofs.Common.{◌≡◌, ◌*◌, ℕ, List, Some, slice_get, ap, ◌∙◌, sym, arith}
 use Rattle.std.proofs.lemmas.Option.{slice_get-get_or}
-use Rattle.il_model.specs.declared.program.Program.{Program}
 use Rattle.il_model.specs.Layouts.{most_trees}
 use Rattle.type_tree.specs.Positions.{positions_of}
 use Rattle.type_inst.specs.Sizing.{word_in, rounds}

@@ -1,5 +1,5 @@
 use Rattle.std.proofs.Common.{◌≡◌, ◌≤◌, ℕ, List, ap, ◌∙◌, sym, arith}
-use Rattle.type_inst.specs.Sizing.{next_round, rounds, AreSettled}
+use Rattle.type_inst.specs.Sizing.{next_round}
 use Rattle.type_inst.proofs.SizingLemmas.{settled_from}
 use Rattle.type_inst.proofs.sizing.settled.Goals as goal
 
