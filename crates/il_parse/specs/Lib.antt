@@ -9,6 +9,7 @@ pub mod Operands
 pub mod Bodies
 pub mod Classes
 pub mod Looking
+pub mod Scopes
 pub mod NamedTypes
 pub mod NamedOps
 pub mod NamedBodies

@@ -1,5 +1,5 @@
 -- What written classes stand for, and the program of all of them. This project's own.
-use Rattle.std.specs.Prelude.{ℕ, ◌+◌, ◌==◌, Bool, false, ◌&&◌, ◌||◌, is_some, if◌then◌else◌, List, [], ◌∷◌, ◌++◌, length, map, Option, Some, None, option_and_then, Ok, Err, bytes_eq}
+use Rattle.std.specs.Prelude.{ℕ, ◌+◌, ◌==◌, Bool, false, ◌&&◌, ◌||◌, is_some, List, [], ◌∷◌, ◌++◌, length, map, Option, Some, None, option_and_then, Ok, Err, bytes_eq}
 use Rattle.std.specs.List.{list_any}
 use Rattle.type_tree.specs.declared.tree.TExpr.{TExpr}
 use Rattle.il_model.specs.declared.class.ClassKind.{ClassKind}
@@ -22,7 +22,7 @@ use Rattle.il_model.specs.Names.{Scope}
 use Rattle.il_model.specs.Bounds.{all_methods}
 use Rattle.il_model.specs.LookUp.{Known, known_of, scope_of, numbers_from, entries_from}
 use Rattle.il_parse.specs.declared.fault.ParseCause.TheVariants as cause
-use Rattle.il_parse.specs.Looking.{Look, ◌>>=◌, pure, repeated, perhaps_of}
+use Rattle.il_parse.specs.Looking.{Look, ◌>>=◌, pure, once, perhaps_of}
 use Rattle.il_parse.specs.NamedTypes.{type_named, types_named, result_named, params_named, vars_named}
 use Rattle.il_parse.specs.NamedBodies.{body_named}
 use Rattle.il_parse.specs.SameTypes.{same_result, same_params}
@@ -36,9 +36,6 @@ has_signature name vars params result m =
 abbrev pub is_signature_met : List MethodDef → List ℕ → ℕ → Look (List PType) → Option TExpr → Bool
 is_signature_met met name vars (Ok params) result = list_any (has_signature name vars params result) met
 is_signature_met met name vars (Err fault) result = false
-
-abbrev pub once : Bool → ℕ → Look (Unit {0})
-once is_met at = if is_met then repeated at else Ok tt
 
 -- a method of the class with this number and so many variables, behind these of the class, where an entry point was met or not
 unfoldable pub method_named : Known → ℕ → ℕ → List MethodDef → Bool → WrittenMethod → Look MethodDef

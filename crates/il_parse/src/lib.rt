@@ -11,11 +11,20 @@ mod forms;
 mod laws;
 mod library;
 mod lines;
+mod literal_table;
 mod literals;
+mod looking;
 mod members;
+mod met;
 mod mnemonics;
+mod named_members;
+mod named_params;
+#[cfg(test)]
+mod named_tests;
+mod named_types;
 mod operands;
 mod params;
+mod scope;
 mod types;
 
 pub use answer::{Parsed, Spots};

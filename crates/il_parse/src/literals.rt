@@ -40,7 +40,8 @@ fn are_hex_digits(bytes: &[u8]) -> bool
     bytes.iter().all(|b| is_hex_digit(*b))
 }
 
-fn is_digit_run(bytes: &[u8]) -> bool
+/// Whether these are digits, at least one.
+pub(crate) fn is_digit_run(bytes: &[u8]) -> bool
     ensures { result ≡ is_run is_digit bytes.now }
 {
     match bytes {
