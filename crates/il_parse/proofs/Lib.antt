@@ -56,3 +56,12 @@ mod ClassesNamed
 mod ProgramsNamed
 mod TextKinds
 mod TextsNamed
+mod FedLemmas
+mod EachLemmas
+mod ScopeLemmas
+mod KeyLemmas
+mod VarLemmas
+mod LiteralLemmas
+mod PlaceLemmas
+mod SignatureLemmas
+mod NamedTypeLemmas

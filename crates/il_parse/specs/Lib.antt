@@ -10,10 +10,15 @@ pub mod Bodies
 pub mod Classes
 pub mod Looking
 pub mod Scopes
+pub mod Literals
+pub mod Variables
+pub mod Levels
 pub mod NamedTypes
 pub mod NamedOps
 pub mod NamedBodies
 pub mod SameTypes
+pub mod Signatures
+pub mod SameSignature
 pub mod NamedClasses
 pub mod Answer
 pub mod Accepted

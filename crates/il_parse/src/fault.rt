@@ -3,7 +3,6 @@ ghost use Rattle.std.specs.Prelude.{◌≡◌};
 ghost use Rattle.il_parse.specs.declared.fault.ReadError.TheVariants.{Memory};
 
 use il_text::{Spot, TextCause};
-use mn_outside::NoMemory;
 use std::alloc::{AllocError, AllocFailed};
 
 /// Why a text is no program. `Text` is of the tokens and of the length; `Syntax`, `Unsupported` and
@@ -61,14 +60,6 @@ impl<T: Drop> From<AllocFailed<T>> for ReadError {
     ghost from_gives = { λ _ e. e ≡ Memory };
 
     fn from(_e: AllocFailed<T>) -> ReadError {
-        ReadError::Memory
-    }
-}
-
-impl From<NoMemory> for ReadError {
-    ghost from_gives = { λ _ e. e ≡ Memory };
-
-    fn from(_e: NoMemory) -> ReadError {
         ReadError::Memory
     }
 }

@@ -1,9 +1,10 @@
 // What names stand for at one place of a text.
-ghost use Rattle.std.specs.Prelude.{◌≡◌};
+ghost use Rattle.std.specs.Prelude.{◌≡◌, slice_get, slice_index_or};
+ghost use Rattle.std.specs.Option.{option_copied};
 ghost use Rattle.il_model.specs.Names.{class_number};
 ghost use Rattle.il_model.specs.LookUp.{arity_of, scope_of};
 ghost use Rattle.il_parse.specs.NamedTypes.{written_class, member_scope};
-ghost use Rattle.il_parse.specs.Scopes.{declared, FindsClasses};
+ghost use Rattle.il_parse.specs.Scopes.{declared, declared_arities, FindsClasses};
 
 use crate::calls::plain_name;
 use crate::literal_table::Literals;
@@ -13,6 +14,27 @@ use std::marker::Model;
 
 // So many classes are of the library; none of them has type variables.
 const LIBRARY_CLASSES: usize = 13;
+
+// The class at this place, if there is one.
+fn class_at(classes: &[WrittenClass], place: usize) -> Option<&WrittenClass>
+    ensures { option_copied result ≡ slice_get classes.now place }
+{
+    classes.get(place)
+}
+
+// How many type variables the class with this number has, or 0 where there is no such class.
+#[tactic(auto, using(crate::proofs::ScopeLemmas::arity_library, crate::proofs::ScopeLemmas::arity_own, crate::proofs::ScopeLemmas::arity_past))]
+fn arity_at(classes: &[WrittenClass], number: usize) -> usize
+    ensures { result ≡ slice_index_or (declared_arities classes.now) number 0 }
+{
+    if number < LIBRARY_CLASSES {
+        return 0;
+    }
+    match class_at(classes, number - LIBRARY_CLASSES) {
+        Some(class) => class.vars.len(),
+        None => 0,
+    }
+}
 
 /// What a text declares: its classes, with a table of their names, and its literals. Contracts see the
 /// names and the numbers of type variables of all classes, those of the library first, and the literals.
@@ -121,19 +143,14 @@ impl<'a> Scope<'a> {
     fn arity(&self, number: Option<usize>) -> usize
         ensures { result ≡ arity_of self.now.arities number }
     {
-        let Some(number) = number else {
-            return 0;
-        };
-        if number < LIBRARY_CLASSES {
-            return 0;
-        }
-        match self.classes.get(number - LIBRARY_CLASSES) {
-            Some(class) => class.vars.len(),
+        match number {
+            Some(number) => arity_at(self.classes, number),
             None => 0,
         }
     }
 
     // The number of the class that a written type names.
+    #[tactic(auto, using(crate::proofs::ScopeLemmas::names_class, crate::proofs::ScopeLemmas::names_object, crate::proofs::ScopeLemmas::names_string, crate::proofs::ScopeLemmas::names_int32, crate::proofs::ScopeLemmas::names_int64, crate::proofs::ScopeLemmas::names_bool, crate::proofs::ScopeLemmas::names_variable, crate::proofs::ScopeLemmas::names_vector))]
     fn written_class(&self, class: &WrittenType) -> Option<usize>
         ensures { result ≡ written_class self.now class.now }
     {
