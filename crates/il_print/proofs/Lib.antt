@@ -1,3 +1,4 @@
+pub mod Keys
 pub mod WordLemmas
 pub mod MarkLemmas
 pub mod LineLemmas
