@@ -4,3 +4,4 @@ pub mod MarkLemmas
 pub mod LineLemmas
 pub mod StopLemmas
 pub mod PieceLemmas
+pub mod TokenReads

@@ -39,17 +39,26 @@ tokens_of at (p ∷ ps) =
     record { kind = p.kind; from = at + length p.blanks; to = at + length p.blanks + length (token_bytes p) } ∷
     tokens_of (at + length p.blanks + length (token_bytes p)) ps
 
--- what stands behind a token begins with a byte that ends it, or is nothing
+-- what stands behind a token begins with a byte that ends each, or is nothing
 abbrev pub IsStopped : List ℕ → Type 0
 IsStopped [] = Unit {0}
 IsStopped (c ∷ more) = IsStop c
+
+-- what stands behind these bytes ends the token of this kind that they spell
+abbrev pub IsEnd : TokenKind → List ℕ → List ℕ → Type 0
+IsEnd k bytes [] = Unit {0}
+IsEnd k bytes (c ∷ after) = (more : List ℕ) → spells k (bytes ++ c ∷ more) ≡ false
+
+pub ends_at_stop : (k : TokenKind) (b : ℕ) (bs after : List ℕ) → spells k (b ∷ bs) ≡ true → IsStopped after → IsEnd k (b ∷ bs) after
+ends_at_stop k b bs [] e s = tt
+ends_at_stop k b bs (c ∷ after) e s = λ more. stopped k b bs c more s e
 
 -- a piece with this behind it
 pub record IsPiece (p : Piece) (after : List ℕ) : Type 0 where
   pub blank : list_all is_blank p.blanks ≡ true
   pub spelled : spells p.kind (token_bytes p) ≡ true
   pub within : IsWithinLimit p.kind (token_bytes p)
-  pub stop : IsStopped after
+  pub end : IsEnd p.kind (token_bytes p) after
 
 -- pieces with this behind them, which is blank
 abbrev pub ArePieces : List Piece → List ℕ → Type 0
@@ -74,23 +83,23 @@ blanks_read (b ∷ bs) text at rest tokens here e read =
     (blanks_read bs text (at + 1) rest tokens next parts.1 (subst (λ n. AreTokensFrom text n tokens) place read))
 
 -- no front that is longer than the token spells one of its kind
-no_longer : (k : TokenKind) (b : ℕ) (bs after : List ℕ) (m : ℕ) → spells k (b ∷ bs) ≡ true → IsStopped after → length (b ∷ bs) < m →
+no_longer : (k : TokenKind) (b : ℕ) (bs after : List ℕ) (m : ℕ) → IsEnd k (b ∷ bs) after → length (b ∷ bs) < m →
     m ≤ length ((b ∷ bs) ++ after) → spells k (take m ((b ∷ bs) ++ after)) ≡ false
-no_longer k b bs [] m e s longer inside = absurd (omega (arith, length-append (b ∷ bs) []))
-no_longer k b bs (c ∷ more) m e s longer inside =
+no_longer k b bs [] m s longer inside = absurd (omega (arith, length-append (b ∷ bs) []))
+no_longer k b bs (c ∷ more) m s longer inside =
     let j = m - length (b ∷ bs) - 1 in
     let is : m ≡ length (b ∷ bs) + suc j = omega arith in
     ap (λ n. spells k (take n ((b ∷ bs) ++ c ∷ more))) is
     ∙ ap (spells k) (take-append-add (b ∷ bs) (c ∷ more) (suc j))
-    ∙ stopped k b bs c (take j more) s e
+    ∙ s (take j more)
 
-longest_piece : (k : TokenKind) (b : ℕ) (bs after : List ℕ) → spells k (b ∷ bs) ≡ true → IsStopped after →
+longest_piece : (k : TokenKind) (b : ℕ) (bs after : List ℕ) → spells k (b ∷ bs) ≡ true → IsEnd k (b ∷ bs) after →
     length (b ∷ bs) ≡ longest_front (spells k) (length ((b ∷ bs) ++ after)) ((b ∷ bs) ++ after)
 longest_piece k b bs after e s =
     sym (longest_front-is (spells k) (length ((b ∷ bs) ++ after)) ((b ∷ bs) ++ after) (length (b ∷ bs))
     (omega (arith, length-append (b ∷ bs) after))
     (λ some. ap (spells k) (take-append_seam (b ∷ bs) after) ∙ e)
-    (λ m longer inside. no_longer k b bs after m e s longer inside))
+    (λ m longer inside. no_longer k b bs after m s longer inside))
 
 -- the token stands in front
 piece_front : (p : Piece) (after : List ℕ) → IsPiece p after → HasToken (token_bytes p ++ after) p.kind (length (token_bytes p))
@@ -98,7 +107,7 @@ piece_front p after is =
     let bytes = token_bytes p ++ after in
     let begins = spells-first p.kind p.first p.rest is.spelled in
     has_token bytes p.first (p.rest ++ after) p.kind (length (token_bytes p)) refl (sym (spells-kind p.kind p.first p.rest is.spelled))
-    (longest_piece p.kind p.first p.rest after is.spelled is.stop) (λ none. omega arith)
+    (longest_piece p.kind p.first p.rest after is.spelled is.end) (λ none. omega arith)
     (omega (arith, length-append (token_bytes p) after)) (gap_len-none p.first (p.rest ++ after) begins.0 begins.1)
     (subst (λ bs. IsWithinLimit p.kind bs) (sym (take-append_seam (token_bytes p) after)) is.within)
 
