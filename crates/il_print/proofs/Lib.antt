@@ -5,3 +5,4 @@ pub mod LineLemmas
 pub mod StopLemmas
 pub mod PieceLemmas
 pub mod TokenReads
+pub mod NumberTokens
