@@ -6,3 +6,6 @@ pub mod StopLemmas
 pub mod PieceLemmas
 pub mod TokenReads
 pub mod NumberTokens
+pub mod LiteralTokens
+pub mod WordReads
+pub mod TypeReads
