@@ -9,3 +9,7 @@ pub mod NumberTokens
 pub mod LiteralTokens
 pub mod WordReads
 pub mod TypeReads
+pub mod Spellable
+pub mod PartReads
+pub mod OpReads
+pub mod BodyReads
