@@ -16,7 +16,7 @@ use Rattle.il_model.specs.Names.{Scope, NamesParams}
 use Rattle.il_model.specs.LookUp.{labels_from, NamesInstr, NamesClause, NamesBody}
 use Rattle.il_model.specs.Canonical.{Word, Line, line, Printing, type_text, params_words, label_text, op_words, places_of, label_line, code_lines, locals_line, clause_words, clause_lines, body_lines}
 use Rattle.il_print.proofs.Keys.{Key, quoted, label_key, type_keys, params_keys, op_keys, label_line_keys, code_keys, locals_keys, clause_keys, clauses_keys, entry_keys, body_keys}
-use Rattle.il_print.proofs.TokenReads.{nothing_reads, is_quotable, token_opens}
+use Rattle.il_print.proofs.TokenReads.{nothing_reads, token_opens}
 use Rattle.il_print.proofs.NumberTokens.{label_token}
 use Rattle.il_print.proofs.WordReads.{Words, Starts, Lines, word_first, token_word, quoted_word, quoted_starts, starts, one_line, no_lines, lines_then}
 use Rattle.il_print.proofs.TypeReads.{IsReadable, type_read}
@@ -54,41 +54,33 @@ locals_read names (p ∷ ps) read =
     (quoted_starts (codes ".locals") (codes "init" ∷ params_words names (p ∷ ps)) (quoted (codes "init") ∷ params_keys names (p ∷ ps)) refl
     (quoted_word (codes "init") (params_words names (p ∷ ps)) (params_keys names (p ∷ ps)) refl read))
 
--- a quoted word, a label, a quoted word and a label
-range_read : (p : Printing) (first : Word) (from to : ℕ) (ws : List Word) (ks : List Key) → is_quotable first ≡ true → Words ws ks →
-    Words (first ∷ label_text p.places from ∷ codes "to" ∷ label_text p.places to ∷ ws)
-    (quoted first ∷ label_key p.places from ∷ quoted (codes "to") ∷ label_key p.places to ∷ ks)
-range_read p first from to ws ks e read =
-    let later_words = codes "to" ∷ label_text p.places to ∷ ws in
-    let later = quoted (codes "to") ∷ label_key p.places to ∷ ks in
-    quoted_word first (label_text p.places from ∷ later_words) (label_key p.places from ∷ later) e
-    (token_word token.Word (label_text p.places from) later_words later (label_token p.places from)
+-- `label to label`
+range_read : (p : Printing) (from to : ℕ) (ws : List Word) (ks : List Key) → Words ws ks →
+    Words (label_text p.places from ∷ codes "to" ∷ label_text p.places to ∷ ws)
+    (label_key p.places from ∷ quoted (codes "to") ∷ label_key p.places to ∷ ks)
+range_read p from to ws ks read =
+    token_word token.Word (label_text p.places from) (codes "to" ∷ label_text p.places to ∷ ws) (quoted (codes "to") ∷ label_key p.places to ∷ ks)
+    (label_token p.places from)
     (quoted_word (codes "to") (label_text p.places to ∷ ws) (label_key p.places to ∷ ks) refl
-    (token_word token.Word (label_text p.places to) ws ks (label_token p.places to) read)))
+    (token_word token.Word (label_text p.places to) ws ks (label_token p.places to) read))
 
 catch_read : (s : Scope) (literals : List (List ℕ)) (places : List ℕ) (labels : List (List ℕ × ℕ)) (written : WrittenClause) (c : Clause) → IsReadable s →
     NamesClause s labels written c → Starts (clause_words (printing s literals places) c c.sort) (clause_keys (printing s literals places) c c.sort)
 catch_read s literals places labels written c r named =
     let p = printing s literals places in
     let t = named.catches in
-    let last = codes "handler" ∷ label_text places c.handler ∷ codes "to" ∷ label_text places c.end ∷ [] in
-    let last_keys = quoted (codes "handler") ∷ label_key places c.handler ∷ quoted (codes "to") ∷ label_key places c.end ∷ [] in
-    let caught : Words (codes "catch" ∷ type_text s.names t ∷ last) (quoted (codes "catch") ∷ type_keys s.names t ++ last_keys) =
-    quoted_word (codes "catch") (type_text s.names t ∷ last) (type_keys s.names t ++ last_keys) refl
-    (word_first (type_text s.names t) last (type_keys s.names t) last_keys (type_read s written.catches t r named.kind)
-    (range_read p (codes "handler") c.handler c.end [] [] refl nothing_reads)) in
-    let to_words = codes "to" ∷ label_text places c.to ∷ codes "catch" ∷ type_text s.names t ∷ last in
-    let to_keys = quoted (codes "to") ∷ label_key places c.to ∷ quoted (codes "catch") ∷ type_keys s.names t ++ last_keys in
+    let handled = label_text places c.handler ∷ codes "to" ∷ label_text places c.end ∷ [] in
+    let handled_keys = label_key places c.handler ∷ quoted (codes "to") ∷ label_key places c.end ∷ [] in
+    let caught = codes "catch" ∷ type_text s.names t ∷ codes "handler" ∷ handled in
+    let caught_keys = quoted (codes "catch") ∷ type_keys s.names t ++ quoted (codes "handler") ∷ handled_keys in
+    let caught_read : Words caught caught_keys =
+    quoted_word (codes "catch") (type_text s.names t ∷ codes "handler" ∷ handled) (type_keys s.names t ++ quoted (codes "handler") ∷ handled_keys) refl
+    (word_first (type_text s.names t) (codes "handler" ∷ handled) (type_keys s.names t) (quoted (codes "handler") ∷ handled_keys)
+    (type_read s written.catches t r named.kind)
+    (quoted_word (codes "handler") handled handled_keys refl (range_read p c.handler c.end [] [] nothing_reads))) in
     subst (λ kind. Starts (clause_words p c kind) (clause_keys p c kind)) (sym named.sort)
-    (quoted_starts (codes ".try") (label_text places c.from ∷ to_words) (label_key places c.from ∷ to_keys) refl
-    (token_word token.Word (label_text places c.from) to_words to_keys (label_token places c.from)
-    (range_tail p c.to (codes "catch" ∷ type_text s.names t ∷ last) (quoted (codes "catch") ∷ type_keys s.names t ++ last_keys) caught)))
-  where
-    range_tail : (p : Printing) (to : ℕ) (ws : List Word) (ks : List Key) → Words ws ks →
-        Words (codes "to" ∷ label_text p.places to ∷ ws) (quoted (codes "to") ∷ label_key p.places to ∷ ks)
-    range_tail p to ws ks read =
-        quoted_word (codes "to") (label_text p.places to ∷ ws) (label_key p.places to ∷ ks) refl
-        (token_word token.Word (label_text p.places to) ws ks (label_token p.places to) read)
+    (quoted_starts (codes ".try") (label_text places c.from ∷ codes "to" ∷ label_text places c.to ∷ caught)
+    (label_key places c.from ∷ quoted (codes "to") ∷ label_key places c.to ∷ caught_keys) refl (range_read p c.from c.to caught caught_keys caught_read))
 
 clauses_read : (p : Printing) (cs : List Clause) → AllByRecursion (λ c. Starts (clause_words p c c.sort) (clause_keys p c c.sort)) cs →
     Lines (clause_lines p cs) (clauses_keys p cs)

@@ -13,3 +13,4 @@ pub mod Spellable
 pub mod PartReads
 pub mod OpReads
 pub mod BodyReads
+pub mod ClassReads
