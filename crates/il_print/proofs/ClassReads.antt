@@ -33,7 +33,7 @@ use Rattle.il_print.proofs.Spellable.{IsNameWord, IsSpellableField, IsSpellableO
 
 -- ---- fields
 
-field_read : (s : Scope) → IsReadable s → (written : WrittenField) (f : FieldDef) → NamesField s written f → IsSpellableField written →
+pub field_read : (s : Scope) → IsReadable s → (written : WrittenField) (f : FieldDef) → NamesField s written f → IsSpellableField written →
     Lines (field_line s.names f) (field_keys s.names f)
 field_read s r written f named name =
     let fixed = if f.fixed then codes "static" ∷ [] else [] in
@@ -145,7 +145,7 @@ found_behind P [] own number later all = found_among P own number all
 found_behind P (m ∷ ms) own zero later all = absurd (omega (arith, later))
 found_behind P (m ∷ ms) own (suc number) later all = found_behind P ms own number (omega (arith, later)) all
 
-numbers_later : {A : Type 0} (least first : ℕ) (xs : List A) → least ≤ first → AllByRecursion (λ number. least ≤ number) (numbers_from first xs)
+pub numbers_later : {A : Type 0} (least first : ℕ) (xs : List A) → least ≤ first → AllByRecursion (λ number. least ≤ number) (numbers_from first xs)
 numbers_later least first [] later = tt
 numbers_later least first (x ∷ xs) later = (later, numbers_later least (first + 1) xs (omega (arith, later)))
 
@@ -171,7 +171,7 @@ methods_read p names front own numbers are read later =
 
 -- ---- classes
 
-kind_quotable : (k : ClassKind) → list_all is_quotable (kind_text k) ≡ true
+pub kind_quotable : (k : ClassKind) → list_all is_quotable (kind_text k) ≡ true
 kind_quotable kind.Plain = refl
 kind_quotable kind.Abstract = refl
 kind_quotable kind.Interface = refl
@@ -187,7 +187,7 @@ extends_case names t false read =
 object_read : (s : Scope) → IsReadable s → IsRead s.names (plain 0)
 object_read s r = class_read s.names 0 [] r.names (omega (arith, r.some)) tt
 
-base_read : (s : Scope) (k : ClassKind) (written : Option WrittenType) (base : Option TExpr) → IsReadable s → NamesBase s k written base →
+pub base_read : (s : Scope) (k : ClassKind) (written : Option WrittenType) (base : Option TExpr) → IsReadable s → NamesBase s k written base →
     Words (base_words s.names base) (base_keys s.names base)
 base_read s k written base r none_of_struct = nothing_reads
 base_read s k written base r none_of_interface = nothing_reads
@@ -196,7 +196,7 @@ base_read s k written base r object_of_abstract = extends_case s.names (plain 0)
 base_read s k written base r (written_base q w t named) =
     extends_case s.names t (bytes_eq (type_text s.names t) (codes "object")) (type_read s w t r named)
 
-interfaces_read : (s : Scope) (ts : List TExpr) → IsReadable s → AllByRecursion (IsRead s.names) ts →
+pub interfaces_read : (s : Scope) (ts : List TExpr) → IsReadable s → AllByRecursion (IsRead s.names) ts →
     Words (interfaces_words s.names ts) (interfaces_keys s.names ts)
 interfaces_read s [] r read = nothing_reads
 interfaces_read s (t ∷ ts) r read =

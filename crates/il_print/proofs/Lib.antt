@@ -14,3 +14,5 @@ pub mod PartReads
 pub mod OpReads
 pub mod BodyReads
 pub mod ClassReads
+pub mod ProgramReads
+pub mod KeyTokens
