@@ -16,3 +16,6 @@ pub mod BodyReads
 pub mod ClassReads
 pub mod ProgramReads
 pub mod KeyTokens
+pub mod WrittenTokens
+pub mod WrittenSpellable
+pub mod CanonicalTokens
