@@ -1,20 +1,17 @@
 -- Bodies with the keys that they bring.
-use Rattle.std.proofs.Common.{◌≡◌, ℕ, ◌+◌, ◌==◌, Bool, true, false, List, [], ◌∷◌, ◌++◌, codes, Option, Some, None, refl, sym, subst, if◌then◌else◌}
+use Rattle.std.proofs.Common.{ℕ, ◌+◌, ◌==◌, Bool, true, false, List, [], ◌∷◌, ◌++◌, codes, refl, sym, subst, if◌then◌else◌}
 use Rattle.std.specs.List.{AllByRecursion, list_any}
 use Rattle.il_text.specs.declared.token.TokenKind.TheVariants as token
 use Rattle.il_model.specs.declared.method.PType.{PType}
-use Rattle.il_model.specs.declared.method.Sort.{Sort}
-use Rattle.il_model.specs.declared.method.Sort.TheVariants as sort
 use Rattle.il_model.specs.declared.method.Clause.{Clause}
 use Rattle.il_model.specs.declared.method.Body.{Body}
 use Rattle.il_model.specs.declared.op.Op.{Op}
-use Rattle.il_model.specs.declared.written.WrittenParam.{WrittenParam}
 use Rattle.il_model.specs.declared.written.WrittenClause.{WrittenClause}
 use Rattle.il_model.specs.declared.written.WrittenBody.{WrittenBody}
 use Rattle.il_model.specs.Bounds.{instrs_of}
-use Rattle.il_model.specs.Names.{Scope, NamesParams}
-use Rattle.il_model.specs.LookUp.{labels_from, NamesInstr, NamesClause, NamesBody}
-use Rattle.il_model.specs.Canonical.{Word, Line, line, Printing, type_text, params_words, label_text, op_words, places_of, label_line, code_lines, locals_line, clause_words, clause_lines, body_lines}
+use Rattle.il_model.specs.Names.{Scope}
+use Rattle.il_model.specs.LookUp.{labels_from, NamesClause, NamesBody}
+use Rattle.il_model.specs.Canonical.{Word, line, Printing, type_text, params_words, label_text, op_words, places_of, label_line, code_lines, locals_line, clause_words, clause_lines, body_lines}
 use Rattle.il_print.proofs.Keys.{Key, quoted, label_key, type_keys, params_keys, op_keys, label_line_keys, code_keys, locals_keys, clause_keys, clauses_keys, entry_keys, body_keys}
 use Rattle.il_print.proofs.TokenReads.{nothing_reads, token_opens}
 use Rattle.il_print.proofs.NumberTokens.{label_token}

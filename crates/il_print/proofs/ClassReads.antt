@@ -1,12 +1,11 @@
 -- Fields, methods and classes with the keys that they bring.
-use Rattle.std.proofs.Common.{◌≡◌, ℕ, zero, suc, ◌+◌, ◌<◌, ◌≤◌, ◌==◌, Bool, true, false, List, [], ◌∷◌, ◌++◌, length, map, flat_map, codes, Option, Some, None, refl, sym, ap, ◌∙◌, subst, append_assoc, arith, bytes_eq, if◌then◌else◌}
+use Rattle.std.proofs.Common.{◌≡◌, ℕ, zero, suc, ◌+◌, ◌≤◌, ◌==◌, Bool, true, false, List, [], ◌∷◌, ◌++◌, length, map, flat_map, codes, Option, Some, None, refl, sym, ◌∙◌, subst, append_assoc, arith, bytes_eq, if◌then◌else◌}
 use Rattle.std.specs.Prelude.{slice_get}
 use Rattle.std.specs.List.{AllByRecursion, list_all}
 use Rattle.type_tree.specs.declared.tree.TExpr.{TExpr}
 use Rattle.il_text.specs.declared.token.TokenKind.TheVariants as token
 use Rattle.il_model.specs.declared.class.ClassKind.{ClassKind}
 use Rattle.il_model.specs.declared.class.ClassKind.TheVariants as kind
-use Rattle.il_model.specs.declared.class.ClassDef.{ClassDef}
 use Rattle.il_model.specs.declared.class.FieldDef.{FieldDef}
 use Rattle.il_model.specs.declared.method.Shape.{Shape}
 use Rattle.il_model.specs.declared.method.Shape.TheVariants as shape
@@ -17,19 +16,17 @@ use Rattle.il_model.specs.declared.written.WrittenType.{WrittenType}
 use Rattle.il_model.specs.declared.written.WrittenBody.{WrittenBody}
 use Rattle.il_model.specs.declared.written.WrittenField.{WrittenField}
 use Rattle.il_model.specs.declared.written.WrittenMethod.{WrittenMethod}
-use Rattle.il_model.specs.declared.written.WrittenClass.{WrittenClass}
-use Rattle.il_model.specs.Bounds.{fields_of, methods_of}
 use Rattle.il_model.specs.Library.{plain}
 use Rattle.il_model.specs.Names.{Scope, Perhaps, neither, each}
-use Rattle.il_model.specs.LookUp.{Known, scope_of, NamesBody, NamesMethod, NamesField, NamesBase, object_of_plain, object_of_abstract, none_of_struct, none_of_interface, written_base, NamesClass, numbers_from}
-use Rattle.il_model.specs.Canonical.{Word, Line, line, comma, between, type_text, result_word, vars_words, params_words, body_lines, field_line, shape_text, method_head, bodied_lines, numbered_lines, method_lines, kind_text, base_words, interfaces_words, class_lines}
-use Rattle.il_print.proofs.Keys.{Key, quoted, all_quoted, name_key, keys_between, type_keys, vars_keys, params_keys, result_keys, body_keys, field_keys, method_head_keys, bodied_keys, method_keys, numbered_keys, methods_keys, base_keys, interfaces_keys, class_head_keys, class_keys}
+use Rattle.il_model.specs.LookUp.{Known, scope_of, NamesBody, NamesMethod, NamesField, NamesBase, object_of_plain, object_of_abstract, none_of_struct, none_of_interface, written_base, numbers_from}
+use Rattle.il_model.specs.Canonical.{Word, line, comma, between, type_text, result_word, vars_words, params_words, body_lines, field_line, shape_text, method_head, bodied_lines, numbered_lines, method_lines, kind_text, base_words, interfaces_words}
+use Rattle.il_print.proofs.Keys.{Key, quoted, all_quoted, name_key, keys_between, type_keys, vars_keys, params_keys, result_keys, body_keys, field_keys, bodied_keys, method_keys, numbered_keys, methods_keys, base_keys, interfaces_keys}
 use Rattle.il_print.proofs.TokenReads.{nothing_reads, is_quotable}
 use Rattle.il_print.proofs.WordReads.{Words, Starts, Lines, one_word, word_first, words_then, token_word, quoted_word, quoted_words, quoted_starts, one_line, no_lines, lines_then, flat_lines}
-use Rattle.il_print.proofs.TypeReads.{IsRead, IsReadable, type_read, types_read, class_read}
-use Rattle.il_print.proofs.PartReads.{each_gives_with, optional_word, result_opens, params_read, types_between, vars_read}
+use Rattle.il_print.proofs.TypeReads.{IsRead, IsReadable, type_read, class_read}
+use Rattle.il_print.proofs.PartReads.{optional_word, result_opens, params_read, types_between, vars_read}
 use Rattle.il_print.proofs.BodyReads.{body_read}
-use Rattle.il_print.proofs.Spellable.{IsNameWord, IsSpellableField, IsSpellableOption, IsSpellableMethod, IsSpellableClass}
+use Rattle.il_print.proofs.Spellable.{IsNameWord, IsSpellableField, IsSpellableOption, IsSpellableMethod}
 
 -- ---- fields
 
@@ -164,10 +161,11 @@ methods_read p names front own numbers are read later =
     each_number : (numbers : List ℕ) → AllByRecursion (λ number. length front ≤ number) numbers →
         AllByRecursion (λ number. Lines (method_lines p names number) (numbered_keys p names number (slice_get p.methods number))) numbers
     each_number [] later = tt
-    each_number (n ∷ ns) later =
-        (numbered_read p names n (slice_get p.methods n)
-        (subst (λ ms. IfThere (IsMethodRead names p.literals) (slice_get ms n)) (sym are) (found_behind (IsMethodRead names p.literals) front own n later.0 read)),
-        each_number ns later.1)
+    each_number (n ∷ ns) later = (
+      numbered_read p names n (slice_get p.methods n)
+          (subst (λ ms. IfThere (IsMethodRead names p.literals) (slice_get ms n)) (sym are) (found_behind (IsMethodRead names p.literals) front own n later.0 read)),
+      each_number ns later.1,
+    )
 
 -- ---- classes
 

@@ -1,7 +1,7 @@
 -- Literals as tokens: what one holds can be written again.
-use Rattle.std.proofs.Common.{◌≡◌, ℕ, zero, suc, ◌-◌, ◌==◌, ◌&&◌, ◌||◌, Bool, true, false, List, [], ◌∷◌, ◌++◌, length, take, drop, flat_map, refl, sym, ap, ◌∙◌, subst, append_assoc, arith, eqb-true, if◌then◌else◌, inl, inr}
+use Rattle.std.proofs.Common.{◌≡◌, ℕ, zero, suc, ◌-◌, ◌==◌, ◌&&◌, ◌||◌, Bool, true, false, List, [], ◌∷◌, ◌++◌, length, take, flat_map, refl, sym, ap, ◌∙◌, subst, append_assoc, arith, eqb-true, if◌then◌else◌, inl, inr}
 use Rattle.std.specs.List.{list_all}
-use Rattle.std.proofs.lemmas.Bool.{true≢false, cases_Bool, or_cases, and_parts, and_from, or_left, or_right, both_ways, false_from_ne_true}
+use Rattle.std.proofs.lemmas.Bool.{true≢false, cases_Bool, or_cases, and_parts, and_from, or_left, both_ways, false_from_ne_true}
 use Rattle.il_text.specs.declared.token.TokenKind.TheVariants as token
 use Rattle.il_text.specs.Bytes.{is_plain, is_escape}
 use Rattle.il_text.specs.Spelling.{is_text, is_text_end}

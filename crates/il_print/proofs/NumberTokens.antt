@@ -1,6 +1,6 @@
 -- Decimal numbers, labels and type variables as tokens.
-use Rattle.std.proofs.Common.{◌≡◌, ℕ, zero, suc, ◌+◌, ◌-◌, ◌*◌, ◌/◌, ◌%◌, ◌^◌, ◌<◌, ◌≤◌, ◌==◌, ◌&&◌, ◌||◌, Bool, true, false, ℤ, pos, negsuc, List, [], ◌∷◌, ◌++◌, length, Option, Some, None, codes, refl, sym, ap, ◌∙◌, subst, arith, eqb-true, if◌then◌else◌}
-use Rattle.std.specs.Prelude.{fold, decimal, option_and_then, unwrap_or}
+use Rattle.std.proofs.Common.{◌≡◌, ℕ, zero, suc, ◌+◌, ◌*◌, ◌/◌, ◌%◌, ◌^◌, ◌<◌, ◌≤◌, ◌==◌, Bool, true, false, ℤ, pos, negsuc, List, [], ◌∷◌, ◌++◌, length, Some, None, codes, refl, sym, ap, ◌∙◌, arith, eqb-true, if◌then◌else◌}
+use Rattle.std.specs.Prelude.{decimal, option_and_then, unwrap_or}
 use Rattle.std.specs.List.{list_all}
 use Rattle.std.specs.Fmt.{digits, digits_onto, digit_glyph, signed_decimal}
 use Rattle.std.specs.Int.Signed.{mag}
@@ -9,8 +9,8 @@ use Rattle.std.proofs.lemmas.Fmt.{decimal_by_steps}
 use Rattle.std.proofs.lemmas.List.Sums.{fold-append}
 use Rattle.il_text.specs.declared.token.TokenKind.TheVariants as token
 use Rattle.il_text.specs.Bytes.{is_digit, is_word_start, is_word_byte}
-use Rattle.il_text.specs.Spelling.{spells, is_run, is_unsigned, is_hexadecimal, is_negative, is_number, is_word, is_class_variable, is_method_variable, digit_value, digits_value, after_byte, value_of, unsigned_value, magnitude_of}
-use Rattle.il_model.specs.Canonical.{Word, label_text}
+use Rattle.il_text.specs.Spelling.{is_run, is_unsigned, is_hexadecimal, is_negative, is_class_variable, is_method_variable, digit_value, digits_value, after_byte, value_of, unsigned_value, magnitude_of}
+use Rattle.il_model.specs.Canonical.{label_text}
 use Rattle.il_print.proofs.TokenReads.{IsToken}
 
 -- ---- digits

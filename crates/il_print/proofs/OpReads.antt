@@ -12,7 +12,7 @@ use Rattle.il_model.specs.declared.written.WrittenOperand.{WrittenOperand}
 use Rattle.il_model.specs.declared.written.WrittenInstr.{WrittenInstr}
 use Rattle.il_model.specs.Forms.{FormWord, word, library_call, no_text, word_of}
 use Rattle.il_model.specs.Ops.{Operand, form_of, operand_of}
-use Rattle.il_model.specs.Names.{Scope, each}
+use Rattle.il_model.specs.Names.{Scope}
 use Rattle.il_model.specs.LookUp.{NamesOperand, names_nothing, names_int32, names_int64, names_literal, names_place, names_target, names_targets, names_type, names_method, names_field, names_constrained, NamesInstr}
 use Rattle.il_model.specs.Canonical.{Word, comma, Printing, type_text, method_ref_words, literal_text, label_text, operand_words, form_words, op_words, between}
 use Rattle.il_print.proofs.Keys.{Key, quoted, all_quoted, literal_key, label_key, keys_between, type_keys, method_ref_keys, operand_keys, form_keys, op_keys}

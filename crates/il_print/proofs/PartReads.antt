@@ -12,7 +12,6 @@ use Rattle.il_model.specs.declared.written.WrittenParam.{WrittenParam}
 use Rattle.il_model.specs.declared.written.WrittenVar.{WrittenVar}
 use Rattle.il_model.specs.declared.written.WrittenMethodRef.{WrittenMethodRef}
 use Rattle.il_model.specs.declared.written.WrittenFieldRef.{WrittenFieldRef}
-use Rattle.il_model.specs.Forms.{word}
 use Rattle.il_model.specs.Names.{Scope, Each, end, both, neither, each, NamesResult, NamesParam, by_value, by_pointer, NamesParams, NamesVar, NamesVars}
 use Rattle.il_model.specs.LookUp.{scope_of_member, NamesMethodRef, NamesFieldRef}
 use Rattle.il_model.specs.Canonical.{Word, comma, type_text, result_word, bound_words, var_words, vars_words, param_words, params_words, angled_words, method_ref_words, field_ref_words, between}

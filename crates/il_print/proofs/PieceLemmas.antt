@@ -111,6 +111,18 @@ piece_front p after is =
     (omega (arith, length-append (token_bytes p) after)) (gap_len-none p.first (p.rest ++ after) begins.0 begins.1)
     (subst (λ bs. IsWithinLimit p.kind bs) (sym (take-append_seam (token_bytes p) after)) is.within)
 
+-- where the token of a piece begins, and where it ends
+pub token_here : (p : Piece) (text after : List ℕ) (at : ℕ) → drop at text ≡ p.blanks ++ (token_bytes p ++ after) →
+    drop (at + length p.blanks) text ≡ token_bytes p ++ after
+token_here p text after at here =
+    sym (drop-drop (length p.blanks) at text) ∙ ap (drop (length p.blanks)) here ∙ drop-append_seam p.blanks (token_bytes p ++ after)
+
+pub token_past : (p : Piece) (text after : List ℕ) (at : ℕ) → drop at text ≡ p.blanks ++ (token_bytes p ++ after) →
+    drop (at + length p.blanks + length (token_bytes p)) text ≡ after
+token_past p text after at here =
+    sym (drop-drop (length (token_bytes p)) (at + length p.blanks) text) ∙ ap (drop (length (token_bytes p))) (token_here p text after at here)
+    ∙ drop-append_seam (token_bytes p) after
+
 -- the tokens of a text that ends with these pieces
 pub pieces_read : (ps : List Piece) (text : List ℕ) (at : ℕ) (last : List ℕ) → at ≤ length text → drop at text ≡ pieces_text ps last → ArePieces ps last →
     AreTokensFrom text at (tokens_of at ps)
@@ -119,13 +131,10 @@ pieces_read (p ∷ ps) text at last inside here are =
     let after = pieces_text ps last in
     let from = at + length p.blanks in
     let len = length (token_bytes p) in
-    let here_token : drop from text ≡ token_bytes p ++ after =
-    sym (drop-drop (length p.blanks) at text) ∙ ap (drop (length p.blanks)) here ∙ drop-append_seam p.blanks (token_bytes p ++ after) in
-    let here_after : drop (from + len) text ≡ after = sym (drop-drop len from text) ∙ ap (drop len) here_token ∙ drop-append_seam (token_bytes p) after in
     let size : length (drop at text) ≡ length p.blanks + (len + length after) =
     ap length here ∙ length-append p.blanks (token_bytes p ++ after) ∙ ap (λ n. length p.blanks + n) (length-append (token_bytes p) after) in
     let room : from + len ≤ length text = omega (arith, size, length-drop at text) in
     blanks_read p.blanks text at (token_bytes p ++ after) (tokens_of at (p ∷ ps)) here are.0.blank
     (token_reads text from len p.kind (tokens_of (from + len) ps) (omega (arith, room))
-    (subst (λ bs. HasToken bs p.kind len) (sym here_token) (piece_front p after are.0))
-    (pieces_read ps text (from + len) last room here_after are.1))
+    (subst (λ bs. HasToken bs p.kind len) (sym (token_here p text after at here)) (piece_front p after are.0))
+    (pieces_read ps text (from + len) last room (token_past p text after at here) are.1))

@@ -12,11 +12,11 @@ use Rattle.il_model.specs.declared.written.WrittenMethod.{WrittenMethod}
 use Rattle.il_model.specs.declared.written.WrittenClass.{WrittenClass}
 use Rattle.il_model.specs.Bounds.{fields_of, methods_of}
 use Rattle.il_model.specs.Library.{library_classes, library_methods}
-use Rattle.il_model.specs.LookUp.{Known, scope_of, NamesClass, NamesClasses, no_classes, more_classes, Owned, owned_from, NamesOwned, known_of, NamesProgram}
-use Rattle.il_model.specs.Canonical.{Word, Line, line, vars_words, field_line, method_lines, kind_text, base_words, interfaces_words, class_lines, program_lines, canonical_text}
+use Rattle.il_model.specs.LookUp.{Known, scope_of, NamesClass, NamesClasses, no_classes, more_classes, Owned, owned_from, known_of, NamesProgram}
+use Rattle.il_model.specs.Canonical.{Word, line, vars_words, field_line, method_lines, kind_text, base_words, interfaces_words, class_lines, program_lines, canonical_text}
 use Rattle.il_print.specs.Parts.{class_head}
-use Rattle.il_print.proofs.Keys.{Key, quoted, all_quoted, name_key, vars_keys, field_keys, methods_keys, base_keys, interfaces_keys, class_head_keys, class_keys, program_keys}
-use Rattle.il_print.proofs.TokenReads.{Has, nothing_has, nothing_reads, is_quotable, is_short_word, short_word}
+use Rattle.il_print.proofs.Keys.{quoted, all_quoted, name_key, vars_keys, field_keys, methods_keys, base_keys, interfaces_keys, class_head_keys, class_keys, program_keys}
+use Rattle.il_print.proofs.TokenReads.{Has, nothing_has, nothing_reads, is_short_word, short_word}
 use Rattle.il_print.proofs.WordReads.{Words, Starts, Lines, words_then, token_word, quoted_word, quoted_words, quoted_starts, one_line, lines_then, flat_lines}
 use Rattle.il_print.proofs.TypeReads.{AreNames, IsReadable, types_read}
 use Rattle.il_print.proofs.PartReads.{each_gives_with, vars_read}
@@ -90,9 +90,10 @@ classes_read : (p : Program) (known : Known) (first : ℕ) (written : List Writt
     p.methods ≡ library_methods ++ own → AllByRecursion (IsMethodRead known.names p.literals) own → length library_methods ≤ first →
     NamesClasses known first written cs → AreSpellable written → AllByRecursion (IsClassRead p known.names) cs
 classes_read p known first written cs own r are read later (no_classes f) spellable = tt
-classes_read p known first written cs own r are read later (more_classes f w c ws more named rest) spellable =
-    (class_read p known first w c own r are read later named spellable.0,
-    classes_read p known (first + length (methods_of w.members)) ws more own r are read (omega (arith, later)) rest spellable.1)
+classes_read p known first written cs own r are read later (more_classes f w c ws more named rest) spellable = (
+  class_read p known first w c own r are read later named spellable.0,
+  classes_read p known (first + length (methods_of w.members)) ws more own r are read (omega (arith, later)) rest spellable.1,
+)
 
 -- ---- the methods of all classes
 

@@ -1,5 +1,5 @@
 -- What is written so that it can be written again: names are words, numbers and bytes are within their ranges.
-use Rattle.std.proofs.Common.{◌≡◌, ℕ, ◌^◌, ◌<◌, true, List, Option, Some, None}
+use Rattle.std.proofs.Common.{◌≡◌, ◌^◌, ◌<◌, true, List, Option, Some, None}
 use Rattle.std.specs.List.{AllByRecursion, list_all}
 use Rattle.std.specs.Int.Signed.{mag}
 use Rattle.il_text.specs.declared.token.TokenKind.TheVariants as token

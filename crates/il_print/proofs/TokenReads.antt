@@ -1,7 +1,7 @@
 -- Texts that have tokens with these keys, up to the end; and texts that bring such keys with them, before others.
-use Rattle.std.proofs.Common.{◌≡◌, ℕ, ◌≤◌, ◌&&◌, ◌||◌, ◌==◌, Bool, true, false, nat_le, List, [], ◌∷◌, ◌++◌, length, map, codes, refl, sym, ap, ◌∙◌, subst, append_assoc, append-nil, if◌then◌else◌, bytes_eq, inl, inr, arith}
+use Rattle.std.proofs.Common.{◌≡◌, ℕ, ◌&&◌, ◌||◌, Bool, true, false, nat_le, List, [], ◌∷◌, ◌++◌, length, map, codes, refl, sym, ap, subst, append_assoc, inl, inr}
 use Rattle.std.specs.List.{list_all}
-use Rattle.std.proofs.lemmas.Bool.{cases_Bool, and_parts, and_from, or_cases, leb-true}
+use Rattle.std.proofs.lemmas.Bool.{true≢false, and_parts, and_from, or_cases, leb-true}
 use Rattle.il_text.specs.declared.token.TokenKind.{TokenKind}
 use Rattle.il_text.specs.declared.token.TokenKind.TheVariants as token
 use Rattle.il_text.specs.Bytes.{is_blank}
@@ -9,8 +9,8 @@ use Rattle.il_text.specs.Spelling.{spells, is_word, is_mark, IsWithinLimit}
 use Rattle.il_text.proofs.FrontLemmas.{spells-kind}
 use Rattle.il_model.specs.Canonical.{Word}
 use Rattle.il_print.proofs.Keys.{Key, kind_of, quoted}
-use Rattle.il_print.proofs.StopLemmas.{IsStop, comma_stops, space_stops, newline_stops, less_stops, greater_stops, bracket_stops}
-use Rattle.il_print.proofs.PieceLemmas.{Piece, token_bytes, pieces_text, IsStopped, IsEnd, ends_at_stop, IsPiece, ArePieces}
+use Rattle.il_print.proofs.StopLemmas.{IsStop, comma_stops, space_stops, less_stops, greater_stops, bracket_stops}
+use Rattle.il_print.proofs.PieceLemmas.{Piece, token_bytes, pieces_text, IsStopped, IsEnd, ends_at_stop, ArePieces}
 
 abbrev pub piece_key : Piece → Key
 piece_key p = record { kind = p.kind; bytes = token_bytes p }
@@ -57,12 +57,15 @@ blank_before b bytes ks (p ∷ ps) last e text are keys =
       pieces = led ∷ ps;
       last = last;
       text = ap (λ bs. b ∷ bs) text;
-      are = (record {
-        blank = and_from (is_blank b) (list_all is_blank p.blanks) e are.0.blank;
-        spelled = are.0.spelled;
-        within = are.0.within;
-        end = are.0.end;
-      }, are.1);
+      are = (
+        record {
+          blank = and_from (is_blank b) (list_all is_blank p.blanks) e are.0.blank;
+          spelled = are.0.spelled;
+          within = are.0.within;
+          end = are.0.end;
+        },
+        are.1,
+      );
       keys = keys;
     }
 
@@ -131,10 +134,7 @@ is_quotable [] = false
 is_quotable (b ∷ bs) = is_short_word (b ∷ bs) || is_mark (b ∷ bs)
 
 pub short_word : (w : Word) → is_short_word w ≡ true → IsToken token.Word w
-short_word [] e = absurd (false_is_true e)
-  where
-    false_is_true : false ≡ true → ⊥
-    false_is_true e = cc
+short_word [] e = absurd (true≢false (sym e))
 short_word (b ∷ bs) e =
     let parts = and_parts (is_word (b ∷ bs)) (nat_le (length (b ∷ bs)) 255) e in
     record { first = b; rest = bs; is = refl; spelled = parts.0; within = leb-true (length (b ∷ bs)) 255 parts.1 }
@@ -143,10 +143,7 @@ mark_token : (b : ℕ) (bs : List ℕ) → is_mark (b ∷ bs) ≡ true → IsTok
 mark_token b bs e = record { first = b; rest = bs; is = refl; spelled = e; within = tt }
 
 pub quoted_token : (w : Word) → is_quotable w ≡ true → IsToken (kind_of w) w
-quoted_token [] e = absurd (false_is_true e)
-  where
-    false_is_true : false ≡ true → ⊥
-    false_is_true e = cc
+quoted_token [] e = absurd (true≢false (sym e))
 quoted_token (b ∷ bs) e =
     elim (or_cases (is_short_word (b ∷ bs)) (is_mark (b ∷ bs)) e) [
       | inl is ↦

@@ -1,6 +1,6 @@
 -- Types with the keys that they bring, where a written type names them.
-use Rattle.std.proofs.Common.{◌≡◌, ℕ, zero, suc, ◌<◌, List, [], ◌∷◌, ◌++◌, map, length, codes, Option, Some, None, refl, sym, ap, ◌∙◌, subst, append_assoc, append-nil, arith}
-use Rattle.std.specs.Prelude.{slice_get, unwrap_or, position, bytes_eq}
+use Rattle.std.proofs.Common.{◌≡◌, ℕ, zero, suc, ◌<◌, List, [], ◌∷◌, map, length, codes, Some, refl, sym, subst, arith}
+use Rattle.std.specs.Prelude.{bytes_eq}
 use Rattle.std.specs.List.{AllByRecursion}
 use Rattle.std.proofs.lemmas.List.{length-map}
 use Rattle.std.proofs.lemmas.List.Quantifiers.{position-Some}
@@ -16,7 +16,7 @@ use Rattle.il_model.specs.declared.written.WrittenType.{WrittenType}
 use Rattle.il_model.specs.Spellings.{plain_name}
 use Rattle.il_model.specs.Names.{Scope, class_number, NamesType, NamesTypes, int32, int64, bool, object, string, class_variable, method_variable, class, vector, no_types, more_types}
 use Rattle.il_model.specs.Canonical.{Word, long_names, level_text, type_text}
-use Rattle.il_print.proofs.Keys.{Key, quoted, name_key, keys_between, angled_keys, head_keys, level_keys, type_keys}
+use Rattle.il_print.proofs.Keys.{Key, quoted, name_key, keys_between, angled_keys, level_keys, type_keys}
 use Rattle.il_print.proofs.TokenReads.{IsToken, short_word, Opens, Reads, nothing_reads, opens_then, reads_then, token_opens, quoted_opens, comma_reads, less_reads, greater_reads, brackets_read}
 use Rattle.il_print.proofs.NumberTokens.{class_variable_token, method_variable_token}
 

@@ -1,5 +1,5 @@
 -- Words of a line with the keys that they bring.
-use Rattle.std.proofs.Common.{◌≡◌, ℕ, zero, suc, ◌*◌, Bool, true, false, List, [], ◌∷◌, ◌++◌, map, flat_map, replicate, codes, refl, sym, ap, ◌∙◌, subst, append_assoc, append-nil, if◌then◌else◌, bytes_eq, inl, inr}
+use Rattle.std.proofs.Common.{◌≡◌, ℕ, zero, suc, ◌*◌, Bool, true, false, List, [], ◌∷◌, ◌++◌, map, flat_map, replicate, codes, refl, sym, ap, ◌∙◌, subst, append_assoc, append-nil, if◌then◌else◌, bytes_eq}
 use Rattle.std.specs.List.{AllByRecursion, list_all}
 use Rattle.std.proofs.lemmas.Bool.{and_parts}
 use Rattle.std.proofs.lemmas.List.Concat.{flat_map-append}

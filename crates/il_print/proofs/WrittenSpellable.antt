@@ -1,7 +1,6 @@
 -- What a text spells can be written again, construct by construct.
-use Rattle.std.proofs.Common.{◌≡◌, ℕ, List, [], ◌∷◌, ◌++◌, codes, Option, Some, None, subst}
+use Rattle.std.proofs.Common.{ℕ, List, [], ◌∷◌, ◌++◌, codes, Option, subst}
 use Rattle.std.specs.List.{AllByRecursion}
-use Rattle.il_model.specs.declared.method.Shape.{Shape}
 use Rattle.il_model.specs.declared.written.WrittenVar.{WrittenVar}
 use Rattle.il_model.specs.declared.written.WrittenMethodRef.{WrittenMethodRef}
 use Rattle.il_model.specs.declared.written.WrittenFieldRef.{WrittenFieldRef}
@@ -12,20 +11,18 @@ use Rattle.il_model.specs.declared.written.WrittenBody.{WrittenBody}
 use Rattle.il_model.specs.declared.written.WrittenField.{WrittenField}
 use Rattle.il_model.specs.declared.written.WrittenMethod.{WrittenMethod}
 use Rattle.il_model.specs.declared.written.WrittenMember.{WrittenMember}
-use Rattle.il_model.specs.declared.written.WrittenMember.TheVariants as member
 use Rattle.il_model.specs.declared.written.WrittenClass.{WrittenClass}
-use Rattle.il_model.specs.declared.program.Program.{Program}
 use Rattle.il_model.specs.Lexemes.{Lexeme, lexemes_of, Many, none, more}
 use Rattle.il_model.specs.Types.{IsVar, unbounded, bounded, AreVars, no_vars, vars}
 use Rattle.il_model.specs.Members.{IsMethodRef, method_ref, IsFieldRef, field_ref}
 use Rattle.il_model.specs.Forms.{OperandKind, operand_kind}
-use Rattle.il_model.specs.Instructions.{IsInside, nothing_inside, type_inside, IsLibraryCall, library_words, IsOperand, nothing, int32_number, int64_number, text, place_number, target, targets, type, called, method, field, constrained, IsInstr, long, library, short, short_whole}
+use Rattle.il_model.specs.Instructions.{IsInside, nothing_inside, type_inside, library_words, IsOperand, nothing, int32_number, int64_number, text, place_number, target, targets, type, called, method, field, constrained, IsInstr, long, library, short, short_whole}
 use Rattle.il_model.specs.Bodies as bodies
 use Rattle.il_model.specs.Bodies.{AreLines, no_lines, labelled, instruction, IsBody}
 use Rattle.il_model.specs.Classes as classes
 use Rattle.il_model.specs.Classes.{IsField, IsBodyOrNone, bodiless, braced, IsMethod, IsMember, field_member, method_member, IsClass, IsProgram}
 use Rattle.il_model.specs.Bounds.{instrs_of, fields_of, methods_of}
-use Rattle.il_model.specs.Accepted.{IsWritten, IsOfText}
+use Rattle.il_model.specs.Accepted.{IsWritten}
 use Rattle.il_print.proofs.Spellable.{IsNameWord, IsSpellableOperand, IsSpellableBody, IsSpellableOption, AreSpellableVars, IsSpellableField, IsSpellableMethod, IsSpellableClass, AreSpellable}
 use Rattle.il_print.proofs.WrittenTokens.{AreLexemes, tokens_are, lexemes_parts, name_word, many_give, separated_give, int32_spellable, int64_spellable, place_spellable, text_spellable, shortened_spellable}
 

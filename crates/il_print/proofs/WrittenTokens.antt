@@ -1,5 +1,5 @@
 -- What a text writes can be written again: numbers, literals and names that are tokens of it.
-use Rattle.std.proofs.Common.{◌≡◌, ℕ, zero, suc, ◌+◌, ◌-◌, ◌^◌, ◌<◌, ◌≤◌, Bool, true, false, ℤ, pos, negsuc, List, [], ◌∷◌, ◌++◌, codes, Option, Some, None, refl, sym, ap, ◌∙◌, subst, arith, if◌then◌else◌, nat_lt, nat_le, length, get_or, le_trans}
+use Rattle.std.proofs.Common.{◌≡◌, ℕ, zero, suc, ◌-◌, ◌^◌, ◌<◌, ◌≤◌, Bool, true, false, ℤ, pos, List, [], ◌∷◌, ◌++◌, Some, None, refl, sym, ap, ◌∙◌, subst, arith, if◌then◌else◌, nat_lt, nat_le, length, get_or, le_trans}
 use Rattle.std.specs.Prelude.{neg_ℤ}
 use Rattle.std.specs.List.{AllByRecursion, list_all, Contains}
 use Rattle.std.specs.Option.{unwrap_or, is_some}
@@ -21,7 +21,7 @@ use Rattle.il_model.specs.Literals.{int32_value, int64_value, place_value, text_
 use Rattle.il_model.specs.Spellings.{Shortened, shortened}
 use Rattle.il_model.specs.Canonical.{Word}
 use Rattle.il_print.proofs.TokenReads.{IsToken}
-use Rattle.il_print.proofs.LiteralTokens.{is_writable, text_value_writable}
+use Rattle.il_print.proofs.LiteralTokens.{text_value_writable}
 use Rattle.il_print.proofs.Spellable.{IsNameWord, IsSpellableOperand}
 
 -- each lexeme is a token of its kind, within the limit
