@@ -64,4 +64,6 @@ mod VarLemmas
 mod LiteralLemmas
 mod PlaceLemmas
 mod SignatureLemmas
+mod GatheringLemmas
+mod EntryLemmas
 mod NamedTypeLemmas

@@ -20,6 +20,8 @@ pub mod SameTypes
 pub mod Signatures
 pub mod SameSignature
 pub mod NamedClasses
+pub mod Gathering
+pub mod EntryPoints
 pub mod Answer
 pub mod Accepted
 pub mod Lines

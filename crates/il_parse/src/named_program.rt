@@ -1,0 +1,110 @@
+// The program that written classes stand for.
+ghost use Rattle.std.specs.Prelude.{◌≡◌, ◌+◌, length, IfOk};
+ghost use Rattle.il_model.specs.Bounds.{all_methods, methods_of};
+ghost use Rattle.il_model.specs.LookUp.{entries_from};
+ghost use Rattle.il_parse.specs.declared.fault.ReadError.TheVariants as error;
+ghost use Rattle.il_parse.specs.Looking.{Looks};
+ghost use Rattle.il_parse.specs.NamedClasses as spec;
+ghost use Rattle.il_parse.specs.EntryPoints.{entry_from};
+
+use crate::class_places::class_places;
+use crate::fault::{Fault, ParseCause, ReadError};
+use crate::gathering::has_entry_point;
+use crate::library::{library_classes, library_methods};
+use crate::literal_table::literals_of;
+use crate::named_classes::{LIBRARY_METHODS, classes_named, number_of};
+use crate::scope::Known;
+use il_model::{Program, WrittenClass, WrittenMember};
+use std::alloc::{AllocError, Global};
+
+// How many of these members are methods.
+fn count_methods(members: &[WrittenMember]) -> usize
+    ensures { result ≡ length (methods_of members.now) }
+{
+    let mut count = 0usize;
+    for member in members {
+        match member {
+            WrittenMember::Field(_) => {}
+            WrittenMember::Method(_) => count += 1,
+        }
+    }
+    count
+}
+
+// The first of these members' methods with an entry point, counted from 0.
+fn entry_place(members: &[WrittenMember]) -> Option<usize>
+    ensures { result ≡ entry_from 0 (methods_of members.now) }
+{
+    let mut count = 0usize;
+    for member in members {
+        match member {
+            WrittenMember::Field(_) => {}
+            WrittenMember::Method(m) => {
+                if has_entry_point(m) {
+                    return Some(count);
+                }
+                count += 1;
+            }
+        }
+    }
+    None
+}
+
+// The sum. No text has as many methods as such a number counts.
+fn sum(first: usize, second: usize) -> Result<usize, AllocError>
+    ensures { IfOk result (λ total. total ≡ first + second) }
+{
+    match first.checked_add(second) {
+        Some(total) => Ok(total),
+        None => Err(AllocError),
+    }
+}
+
+// No method has an entry point.
+fn no_entry() -> ReadError
+    ensures { result ≡ error.Fault (record { at = None; cause = ParseCause.NoEntry }) }
+{
+    ReadError::Fault(Fault {
+        at: None,
+        cause: ParseCause::NoEntry,
+    })
+}
+
+// The number of the first method with an entry point.
+fn first_entry(classes: &[WrittenClass]) -> Result<u16, ReadError>
+    ensures { Looks (spec.first_entry (entries_from 12 (all_methods classes.now))) result }
+{
+    let mut before = LIBRARY_METHODS;
+    for class in classes {
+        let members = class.members.as_slice();
+        if let Some(place) = entry_place(members) {
+            let number = number_of(sum(before, place)?)?;
+            return Ok(number);
+        }
+        before = sum(before, count_methods(members))?;
+    }
+    Err(no_entry())
+}
+
+/// The program that the written classes of a text stand for, or the first name that is refused.
+#[tactic(auto, unfolding(crate::specs::NamedClasses::program_named))]
+pub(crate) fn program_named(alloc: Global, classes: &[WrittenClass]) -> Result<Program, ReadError>
+    ensures { Looks (spec.program_named classes.now) result }
+{
+    let places = class_places(alloc, classes)?;
+    let literals = literals_of(alloc, classes)?;
+    let known = Known::new(classes, &places, &literals);
+    let gathered = classes_named(alloc, &known, classes)?;
+    let main = first_entry(classes)?;
+    let mut all_classes = library_classes(alloc)?;
+    all_classes.append(gathered.classes)?;
+    let mut all_methods = library_methods(alloc)?;
+    all_methods.append(gathered.methods)?;
+    let literals = literals.into_items(alloc)?;
+    Ok(Program {
+        classes: all_classes,
+        methods: all_methods,
+        literals,
+        main,
+    })
+}
