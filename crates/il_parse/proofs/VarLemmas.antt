@@ -51,4 +51,4 @@ vars_from_length s met found (v ∷ ws) vs e =
 -- there are as many type variables as are written
 pub vars_length : (s : Scope) (ws : List WrittenVar) (vs : List VarDef) → vars_named s ws ≡ Ok vs → length vs ≡ length ws
 unfolding vars_named
-vars_length s ws vs e = vars_from_length s [] [] ws vs e
+vars_length s ws vs e = let count : length vs ≡ 0 + length ws = vars_from_length s [] [] ws vs e in omega (arith, count)
