@@ -60,6 +60,7 @@ mod FedLemmas
 mod EachLemmas
 mod ScopeLemmas
 mod KeyLemmas
+mod KnownLemmas
 mod VarLemmas
 mod LiteralLemmas
 mod PlaceLemmas

@@ -1,7 +1,8 @@
 // The program that written classes stand for.
-ghost use Rattle.std.specs.Prelude.{◌≡◌, ◌+◌, length, IfOk};
+ghost use Rattle.std.specs.Prelude.{◌≡◌, ◌+◌, ◌++◌, length, IfOk, IfErr};
 ghost use Rattle.il_model.specs.Bounds.{all_methods, methods_of};
-ghost use Rattle.il_model.specs.LookUp.{entries_from};
+ghost use Rattle.il_model.specs.Library.{library_classes, library_methods};
+ghost use Rattle.il_model.specs.LookUp.{entries_from, known_of};
 ghost use Rattle.il_parse.specs.declared.fault.ReadError.TheVariants as error;
 ghost use Rattle.il_parse.specs.Looking.{Looks};
 ghost use Rattle.il_parse.specs.NamedClasses as spec;
@@ -9,9 +10,10 @@ ghost use Rattle.il_parse.specs.EntryPoints.{entry_from};
 
 use crate::class_places::class_places;
 use crate::fault::{Fault, ParseCause, ReadError};
+use crate::found::Gathered;
 use crate::gathering::has_entry_point;
 use crate::library::{library_classes, library_methods};
-use crate::literal_table::literals_of;
+use crate::literal_table::{Literals, literals_of};
 use crate::named_classes::{LIBRARY_METHODS, classes_named, number_of};
 use crate::scope::Known;
 use il_model::{Program, WrittenClass, WrittenMember};
@@ -86,25 +88,53 @@ fn first_entry(classes: &[WrittenClass]) -> Result<u16, ReadError>
     Err(no_entry())
 }
 
+// The classes of a text that has these literals.
+#[tactic(auto, using(crate::proofs::KnownLemmas::declared_is))]
+fn classes_found(
+    alloc: Global,
+    classes: &[WrittenClass],
+    literals: &Literals,
+) -> Result<Gathered, ReadError>
+    requires { literals.now ≡ (known_of classes.now).literals }
+    ensures { Looks (spec.classes_named (known_of classes.now) spec.gathered_first classes.now) result }
+{
+    let places = class_places(alloc, classes)?;
+    let known = Known::new(classes, &places, literals);
+    let gathered = classes_named(alloc, &known, classes)?;
+    Ok(gathered)
+}
+
+// The program of these classes and those of the library.
+fn with_library(
+    alloc: Global,
+    gathered: Gathered,
+    literals: Literals,
+    main: u16,
+) -> Result<Program, ReadError>
+    ensures ok { IfOk result (λ p. p ≡ record { classes = library_classes ++ gathered.classes; methods = library_methods ++ gathered.methods; literals = literals; main = main }) }
+    ensures memory { IfErr result (λ e. e ≡ error.Memory) }
+{
+    let mut classes = library_classes(alloc)?;
+    classes.append(gathered.classes)?;
+    let mut methods = library_methods(alloc)?;
+    methods.append(gathered.methods)?;
+    let literals = literals.into_items(alloc)?;
+    Ok(Program {
+        classes,
+        methods,
+        literals,
+        main,
+    })
+}
+
 /// The program that the written classes of a text stand for, or the first name that is refused.
 #[tactic(auto, unfolding(crate::specs::NamedClasses::program_named))]
 pub(crate) fn program_named(alloc: Global, classes: &[WrittenClass]) -> Result<Program, ReadError>
     ensures { Looks (spec.program_named classes.now) result }
 {
-    let places = class_places(alloc, classes)?;
     let literals = literals_of(alloc, classes)?;
-    let known = Known::new(classes, &places, &literals);
-    let gathered = classes_named(alloc, &known, classes)?;
+    let gathered = classes_found(alloc, classes, &literals)?;
     let main = first_entry(classes)?;
-    let mut all_classes = library_classes(alloc)?;
-    all_classes.append(gathered.classes)?;
-    let mut all_methods = library_methods(alloc)?;
-    all_methods.append(gathered.methods)?;
-    let literals = literals.into_items(alloc)?;
-    Ok(Program {
-        classes: all_classes,
-        methods: all_methods,
-        literals,
-        main,
-    })
+    let program = with_library(alloc, gathered, literals, main)?;
+    Ok(program)
 }
