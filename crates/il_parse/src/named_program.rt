@@ -89,7 +89,6 @@ fn first_entry(classes: &[WrittenClass]) -> Result<u16, ReadError>
 }
 
 // The classes of a text that has these literals.
-#[tactic(auto, using(crate::proofs::KnownLemmas::declared_is))]
 fn classes_found(
     alloc: Global,
     classes: &[WrittenClass],
@@ -100,8 +99,7 @@ fn classes_found(
 {
     let places = class_places(alloc, classes)?;
     let known = Known::new(classes, &places, literals);
-    let gathered = classes_named(alloc, &known, classes)?;
-    Ok(gathered)
+    classes_named(alloc, &known, classes)
 }
 
 // The program of these classes and those of the library.
