@@ -3,7 +3,6 @@ use Rattle.std.proofs.Common.{◌≡◌, ◌∙◌, ℕ, ◌+◌, ◌<◌, ◌�
 use Rattle.std.proofs.Math.ListN.{drop_of_length-le}
 use Rattle.type_tree.specs.declared.tree.TExpr.{TExpr}
 use Rattle.il_model.specs.declared.class.FieldDef.{FieldDef}
-use Rattle.il_model.specs.declared.class.VarDef.{VarDef}
 use Rattle.il_model.specs.declared.method.PType.{PType}
 use Rattle.il_model.specs.declared.method.MethodDef.{MethodDef}
 use Rattle.il_model.specs.declared.written.WrittenMethod.{WrittenMethod}
@@ -11,7 +10,7 @@ use Rattle.il_model.specs.declared.written.WrittenMember.{WrittenMember}
 use Rattle.il_model.specs.declared.written.WrittenMember.TheVariants as member
 use Rattle.il_model.specs.declared.written.WrittenClass.{WrittenClass}
 use Rattle.il_model.specs.Names.{Scope}
-use Rattle.il_model.specs.LookUp.{Known, scope_of, numbers_from}
+use Rattle.il_model.specs.LookUp.{Known, scope_of}
 use Rattle.il_parse.specs.declared.fault.Fault.{Fault}
 use Rattle.il_parse.specs.declared.fault.ReadError.{ReadError}
 use Rattle.il_parse.specs.declared.fault.ReadError.TheVariants as error
@@ -73,14 +72,6 @@ module _ (known : Known) (owner of_class : ℕ) (met : List MethodDef) (begun : 
       method_is
       ∙ (λ i. result_named (sym scope i) m.result >>= (λ result. with_params (sym scope i) known.literals owner met begun m result (params_named (sym scope i) m.params)))
       ∙ (λ i. result_is i >>= (λ result. with_params s known.literals owner met begun m result (params_are i)))
-
-  -- a method whose result was refused
-  pub method_unresolved : (s : Scope) (fault : Fault) → s ≡ scope_of known of_class (length m.vars) → result_named s m.result ≡ Err fault →
-      method_named known owner of_class met begun m ≡ Err fault
-  method_unresolved s fault scope result_is =
-      method_is
-      ∙ (λ i. result_named (sym scope i) m.result >>= (λ result. with_params (sym scope i) known.literals owner met begun m result (params_named (sym scope i) m.params)))
-      ∙ (λ i. result_is i >>= (λ result. with_params s known.literals owner met begun m result (params_named s m.params)))
 
 -- what refuses a thing refuses the list
 pub into_err : {A : Type 0} (old new : List A) (look : Look A) (e : ReadError) → Looks look (Err e) → LooksInto (added old look) (Err e) new

@@ -1,6 +1,5 @@
-use Rattle.std.proofs.Common.{◌∙◌, rules, arith, ap}
+use Rattle.std.proofs.Common.{◌∙◌, rules, arith}
 use Rattle.std.proofs.lemmas.Grind.{common_steps}
-use Rattle.il_parse.specs.NamedClasses.{classes_named}
 use Rattle.il_parse.proofs.GatheringLemmas.{classes_end, classes_next}
 use Rattle.il_parse.proofs.named_classes.classes_named.Goals as goal
 

@@ -1,7 +1,6 @@
-use Rattle.std.proofs.Common.{◌≡◌, ◌∙◌, ◌+◌, ◌++◌, [], ◌∷◌, append_assoc, append-nil, drop, sym, ap, rules, arith}
+use Rattle.std.proofs.Common.{◌∙◌, ◌++◌, append-nil, sym, ap}
 use Rattle.std.proofs.Math.ListN.{drop_of_length-le}
 use Rattle.il_model.specs.LookUp.{numbers_from}
-use Rattle.il_parse.proofs.EachLemmas.{seam}
 use Rattle.il_parse.proofs.named_classes.numbers_of.Goals as goal
 
 pub returns : goal.returns

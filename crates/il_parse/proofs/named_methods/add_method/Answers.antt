@@ -3,8 +3,7 @@ use Rattle.std.proofs.lemmas.Grind.{common_steps}
 use Rattle.il_model.specs.LookUp.{scope_of}
 use Rattle.il_parse.specs.declared.signatures.Signature.{Signature}
 use Rattle.il_parse.specs.NamedTypes.{result_named, params_named}
-use Rattle.il_parse.specs.NamedClasses.{method_named}
-use Rattle.il_parse.specs.Gathering.{LooksInto, added, refused_method, signed_method, signature_of}
+use Rattle.il_parse.specs.Gathering.{LooksInto, added, refused_method, signature_of}
 use Rattle.il_parse.proofs.GatheringLemmas.{method_is, method_signed, method_refused, into_err}
 use Rattle.il_parse.proofs.named_methods.add_method.Goals as goal
 
@@ -21,7 +20,7 @@ returns-in-Ok c =
     let signature : Signature = record { name = c.in_ok-name-in-Ok.name; vars = c.len-in-Ok.result; params = c.in-Ok.params; result = c.in_ok-given.given } in
     let signed : signature ≡ signature_of c.args.m.now c.in-Ok.params c.in_ok-given.given = first_of (search rules, grind (arith, common_steps)) in
     let e = method_signed c.args.known.now c.args.owner c.args.of_class c.args.methods.now c.args.begun c.args.m.now c.scope-scope.result c.literals-literals.result.now
-      c.in_ok-given.given c.in-Ok.params signature scope (first_of (search rules, grind (arith, common_steps))) signed result_is params_are in
+    c.in_ok-given.given c.in-Ok.params signature scope (first_of (search rules, grind (arith, common_steps))) signed result_is params_are in
     subst (λ look. LooksInto (added c.args.methods.now look) c.add_signed.result c.add_signed.new.methods) (sym e) c.add_signed.ensures
 
 pub returns-in-Err-Fault : goal.returns-in-Err-Fault
