@@ -68,3 +68,9 @@ mod SignatureLemmas
 mod GatheringLemmas
 mod EntryLemmas
 mod NamedTypeLemmas
+mod LabelLemmas
+mod LineNameLemmas
+mod AsciiLemmas
+mod TokenLemmas
+mod FaultPlaces
+mod ParsingLemmas

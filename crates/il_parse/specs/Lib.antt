@@ -15,6 +15,8 @@ pub mod Variables
 pub mod Levels
 pub mod NamedTypes
 pub mod NamedOps
+pub mod Held
+pub mod Labels
 pub mod NamedBodies
 pub mod SameTypes
 pub mod Signatures
@@ -24,5 +26,7 @@ pub mod Gathering
 pub mod EntryPoints
 pub mod Answer
 pub mod Accepted
+pub mod Places
+pub mod Parsing
 pub mod Lines
 pub mod Calls

@@ -13,6 +13,7 @@ mod found;
 mod gathering;
 mod hashing;
 mod laws;
+mod labels;
 mod library;
 mod lines;
 mod literal_table;
@@ -24,8 +25,10 @@ mod met;
 mod mnemonics;
 mod named_bodies;
 mod named_classes;
+mod named_lines;
 mod named_members;
 mod named_methods;
+mod named_ops;
 mod named_params;
 mod named_program;
 #[cfg(test)]
@@ -33,11 +36,17 @@ mod named_tests;
 mod named_types;
 mod operands;
 mod params;
+mod parsing;
+mod places;
+mod placing;
 mod scope;
 mod signatures;
+#[cfg(test)]
+mod tests;
 mod types;
 mod variables;
 
 pub use answer::{Parsed, Spots};
 pub use fault::{ParseCause, ParseFault};
 pub use laws::{names_give_one_program, texts_give_one_answer, written_texts_are_read};
+pub use parsing::parse;
