@@ -2,3 +2,4 @@ pub mod FindLemmas
 pub mod StackLemmas
 pub mod Examples
 pub mod RefusalLemmas
+pub mod TreesLemmas

@@ -2,6 +2,7 @@
 #![tactic(auto)]
 
 mod admitting;
+mod bounds;
 mod equality;
 mod fault;
 mod fitting;
