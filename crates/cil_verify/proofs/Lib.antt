@@ -1,5 +1,11 @@
 pub mod FindLemmas
 pub mod StackLemmas
+pub mod TakingLemmas
+pub mod CallLemmas
+pub mod TreesLemmas
+pub mod StatesLemmas
+pub mod ArrivalLemmas
+pub mod CauseLemmas
+pub mod PassLemmas
 pub mod Examples
 pub mod RefusalLemmas
-pub mod TreesLemmas

@@ -13,7 +13,7 @@ use Rattle.type_tree.specs.Positions.{positions_of}
 use Rattle.type_tree.proofs.TreeLemmas.{top_of-tree_of, tree_of-is, holds_of_trees}
 use Rattle.type_tree.proofs.PositionsLemmas.{positions_of-node, positions_of-class_var, positions_of-method_var, positions_of-positive}
 use Rattle.il_model.specs.Trees.{trees_within, trees_in}
-use Rattle.il_model.specs.Entries.{arguments_at, arguments_of}
+use Rattle.il_model.specs.Entries.{arguments_at}
 
 flat_agree : (f g : TExpr → List TExpr) (xs : List TExpr) → AllByRecursion (λ x. f x ≡ g x) xs → flat_map f xs ≡ flat_map g xs
 flat_agree f g [] all = refl

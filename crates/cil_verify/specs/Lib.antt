@@ -3,6 +3,10 @@ pub mod Fits
 pub mod Rows
 pub mod Members
 pub mod Admits
+pub mod Taking
+pub mod Steps
 pub mod Joins
 pub mod States
+pub mod Arrivals
+pub mod Passes
 pub mod WellTyped

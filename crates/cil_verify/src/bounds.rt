@@ -176,7 +176,9 @@ fn arguments_meet(
         if i >= parts.len() {
             return Ok(true);
         }
-        if !meets_bounds_of(alloc, program, of_class, of_method, kind, &vars[i], &parts[i])? {
+        if !meets_bounds_of(
+            alloc, program, of_class, of_method, kind, &vars[i], &parts[i],
+        )? {
             return Ok(false);
         }
     }
@@ -260,11 +262,7 @@ fn is_box_assignable(
 }
 
 // The bounds of a variable; any other type has none.
-fn bounds_among<'a>(
-    of_class: &'a [VarDef],
-    of_method: &'a [VarDef],
-    kind: &TExpr,
-) -> &'a [TExpr]
+fn bounds_among<'a>(of_class: &'a [VarDef], of_method: &'a [VarDef], kind: &TExpr) -> &'a [TExpr]
     ensures { result.now ≡ bounds_of (record { of_class = of_class.now; of_method = of_method.now }) kind.now }
 {
     match kind.top() {

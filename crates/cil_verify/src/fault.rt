@@ -32,3 +32,10 @@ pub struct VerifyFault {
     pub at: Where,
     pub cause: VerifyCause,
 }
+
+/// The first instruction of a body that is refused, by its number from 0.
+#[derive(Clone, Copy, Debug, PartialEq, Eq)]
+pub struct BodyFault {
+    pub instr: u32,
+    pub cause: VerifyCause,
+}

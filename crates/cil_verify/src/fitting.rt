@@ -110,7 +110,7 @@ pub(crate) fn bounds_of<'a>(
 }
 
 // The variables of a method's class.
-fn class_vars<'a>(program: &'a Program, method: &MethodDef) -> &'a [VarDef]
+pub(crate) fn class_vars<'a>(program: &'a Program, method: &MethodDef) -> &'a [VarDef]
     ensures { result.now ≡ vars_in (slice_get program.now.classes method.now.owner) }
 {
     match program.classes.as_slice().get(method.owner as usize) {

@@ -182,7 +182,7 @@ fn is_instance(shape: Shape) -> bool
     }
 }
 
-fn takes_object(shape: Shape) -> bool
+pub(crate) fn takes_object(shape: Shape) -> bool
     ensures { result ≡ takes_object shape }
 {
     match shape {
