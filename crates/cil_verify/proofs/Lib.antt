@@ -9,3 +9,12 @@ pub mod CauseLemmas
 pub mod PassLemmas
 pub mod Examples
 pub mod RefusalLemmas
+pub mod OnceLemmas
+pub mod ClosingLemmas
+pub mod HeightLemmas
+pub mod LayoutLemmas
+pub mod FirstLemmas
+pub mod JudgingLemmas
+pub mod ItemsLemmas
+pub mod RulesLemmas
+pub mod FormsLemmas

@@ -10,3 +10,11 @@ pub mod States
 pub mod Arrivals
 pub mod Passes
 pub mod WellTyped
+pub mod TypeSets
+pub mod Closures
+pub mod Heights
+pub mod Hierarchies
+pub mod Sizes
+pub mod Forms
+pub mod Judging
+pub mod Verifies

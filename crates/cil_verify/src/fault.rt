@@ -9,8 +9,10 @@ pub enum Where {
 }
 
 /// The causes, in the order in which they are judged at one place but for `BadMember`, which comes first at an instruction.
+/// `NotBuilt` is judged of the whole program before all others.
 #[derive(Clone, Copy, Debug, PartialEq, Eq)]
 pub enum VerifyCause {
+    NotBuilt,
     BadHierarchy,
     BadLayout,
     BadConstraint,

@@ -15,9 +15,10 @@ use sqlite_items::Items;
 use std::alloc::Global;
 use type_tree::{Head, TExpr, TNode};
 
-// The types one step from a type: its base, the interfaces that its class names, and its fields of value
-// types.
-pub(crate) fn steps_of(
+/// The types one step from a type of its closure: its base, the interfaces that its class names, and its
+/// fields of value types, static ones too, with the arguments put. Those with a wrong number of arguments
+/// are passed over.
+pub fn steps_of(
     alloc: Global,
     program: &Program,
     kind: &TExpr,
