@@ -3,3 +3,4 @@ pub mod NodeLaws
 pub mod ReadingLemmas
 pub mod QuietLemmas
 pub mod Opening
+pub mod ShownLaws

@@ -35,7 +35,7 @@ use Rattle.rgctx_fill.specs.Predefined.{HasLeaves}
 use Rattle.rgctx_fill.specs.Nodes.{IsAdmittedType, IsAdmittedMethod, MayStand}
 use Rattle.rgctx_fill.specs.Fitting.{AreListed, directory, AreFitting}
 use Rattle.rgctx_fill.specs.SpelledLaws.{below-is, from-used}
-use Rattle.rgctx_fill.specs.NamedLaws.{opening-used}
+use Rattle.rgctx_fill.specs.LeafLaws.{opening-used}
 use Rattle.rgctx_fill.proofs.QuietLemmas.{IsQuiet, root, derived, int32, int64, bool, quiet-limit, quiet-admitted, alone-admitted, alone-positions, alone-substituted}
 
 infixr 5 ◌▸◌

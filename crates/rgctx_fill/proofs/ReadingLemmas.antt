@@ -21,6 +21,7 @@ use Rattle.rgctx_fill.specs.SpelledLaws.{is_zero, below-is, from-used, spelled-g
 use Rattle.rgctx_fill.specs.PlaceLaws.{node-place}
 use Rattle.rgctx_fill.proofs.SpellingLemmas.{Reads, from-reads}
 use Rattle.rgctx_fill.proofs.NodeLaws.{type_below}
+use Rattle.rgctx_fill.proofs.ShownLaws.{shows-named}
 
 -- these types before those that are read
 abbrev pub before : List TExpr → Result (List TExpr) NodeTree → Result (List TExpr) NodeTree
@@ -146,8 +147,8 @@ module _ (at after : ℕ → ℕ) (within : Grows after at) (i a : ℕ) (type : 
   pub argument-no_other : ¬ (spelled after a ≡ tree.Other)
   argument-no_other h = let e : tree.Other ≡ tree.Kind type.type = sym (spelled-grows after at within a (ap is_zero h) ∙ h) ∙ type.is in cc
 
-pub argument-known : (held : ℕ → ℕ) (i a : ℕ) → i < node_count → held i ≢ 0 → a ≢ 0 → a < i → ¬ (IsUnknown held a)
-argument-known held i a low used ne less unknown = unknown.unnamed i used (subst (λ p. NamesFrom p (held i) a) (sym (node-place i low)) (omega arith, less))
+pub argument-known : (cat : CatData) (held : ℕ → ℕ) (i a : ℕ) → i < node_count → held i ≢ 0 → a ≢ 0 → a < i → ¬ (IsUnknown cat held a)
+argument-known cat held i a low used ne less unknown = unknown (shows-named cat held i a (omega arith) used (subst (λ p. NamesFrom p (held i) a) (sym (node-place i low)) (omega arith, less)))
 
 -- ---- what a node spells, once its arguments are read
 
@@ -178,8 +179,8 @@ module _ (held : ℕ → ℕ) (i word : ℕ) (is : held i ≡ word) (used : word
       ∙ ap (λ b. if b then applied_or_stop (definition_of (node_read word).definition) (types_of (spelled_below held i) (argument_fields (node_read word))) else tree.Other) packed
 
 -- what is spelled is what the reader answers
-pub node_tree-is : (first held : ℕ → ℕ) (i : ℕ) (s : NodeTree) → is_zero s ≡ false → spelled held i ≡ s → IsNodeTree first held i s
-node_tree-is first held i (tree.Kind t) used h = h
-node_tree-is first held i (tree.Method m) used h = h
-node_tree-is first held i tree.Other used h = h
-node_tree-is first held i (tree.Zero n) used h = cc
+pub node_tree-is : (cat : CatData) (first held : ℕ → ℕ) (i : ℕ) (s : NodeTree) → is_zero s ≡ false → spelled held i ≡ s → IsNodeTree cat first held i s
+node_tree-is cat first held i (tree.Kind t) used h = h
+node_tree-is cat first held i (tree.Method m) used h = h
+node_tree-is cat first held i tree.Other used h = h
+node_tree-is cat first held i (tree.Zero n) used h = cc

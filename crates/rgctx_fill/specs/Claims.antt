@@ -1,15 +1,16 @@
--- What one who holds given words may claim, which words are always there, and which a word names. This project's own.
+-- What one who holds given words may claim, which words are always there, and which others held words show. This project's own.
 use Rattle.std.specs.Prelude.{◌≡◌, ◌≢◌, ◌⊎◌, ℕ, ◌≤◌, ◌<◌}
 use Rattle.rgctx_words.specs.declared.place.ContextPlace.{ContextPlace}
 use Rattle.rgctx_words.specs.declared.place.ContextPlace.TheVariants as place
 use Rattle.rgctx_words.specs.Regions.{row_count, directory_at, directory_index, row_address}
 use Rattle.rgctx_words.specs.Places.{place_of}
 use Rattle.rgctx_words.specs.Directory.{directory_read}
+use Rattle.rgctx_words.specs.Held.{Grows}
 use Rattle.rgctx_template.specs.Catalogue.{CatData}
 use Rattle.rgctx_fill.specs.Spelled.{spelled_below, spelled_from}
 use Rattle.rgctx_fill.specs.Leaves.{IsLeaf, last_leaf}
 use Rattle.rgctx_fill.specs.Nodes.{MayStand}
-use Rattle.rgctx_fill.specs.Fitting.{directory, IsRow, IsRowOf, IsNext, IsEntry}
+use Rattle.rgctx_fill.specs.Fitting.{directory, IsRow, IsRowOf, IsNext, IsEntry, AreFitting}
 
 -- all words of a list from a number on, up to a place, are held, and each is another
 pub record ArePassed (word : ℕ → ℕ) (first place new : ℕ) : Type 0 where
@@ -61,3 +62,11 @@ NamesFrom (place.Entry row slot) word j = j ≡ directory_index row
 -- the word at the index names the other index
 abbrev pub Names : ℕ → ℕ → ℕ → Type 0
 Names i word j = NamesFrom (place_of i) word j
+
+-- all words that fit and have what is held are so
+abbrev pub IsSure : CatData → (ℕ → ℕ) → ((ℕ → ℕ) → Type 0) → Type 0
+IsSure cat held P = (at : ℕ → ℕ) → AreFitting cat at → Grows held at → P at
+
+-- what is held shows that the index holds a word
+abbrev pub Shows : CatData → (ℕ → ℕ) → ℕ → Type 0
+Shows cat held i = IsSure cat held (λ at. at i ≢ 0)

@@ -10,5 +10,5 @@ pub mod SpelledLaws
 pub mod PlaceLaws
 pub mod GrowthLaws
 pub mod ClaimLaws
-pub mod NamedLaws
+pub mod LeafLaws
 pub mod Predefined

@@ -9,25 +9,23 @@ use Rattle.rgctx_fill.specs.declared.reading.Types.{Types}
 use Rattle.rgctx_fill.specs.declared.reading.Types.TheVariants as types
 use Rattle.rgctx_fill.specs.Spelled.{types_of, spelled_below, spelled}
 use Rattle.rgctx_fill.specs.Templates.{template_at}
-use Rattle.rgctx_fill.specs.Claims.{Always, Names}
+use Rattle.rgctx_fill.specs.Claims.{Shows}
 
 -- nothing that is held shows that the index holds a word
-pub record IsUnknown (held : ℕ → ℕ) (i : ℕ) : Type 0 where
-  pub unheld : held i ≡ 0
-  pub no_leaf : ¬ (Always i)
-  pub unnamed : (j : ℕ) → held j ≢ 0 → ¬ (Names j (held j) i)
+abbrev pub IsUnknown : CatData → (ℕ → ℕ) → ℕ → Type 0
+IsUnknown cat held i = ¬ (Shows cat held i)
 
 -- what is read of a node, from the words held before and after: what its word spells; Zero where its own word was answered as 0
-abbrev pub IsNodeTree : (ℕ → ℕ) → (ℕ → ℕ) → ℕ → NodeTree → Type 0
-IsNodeTree before after i (tree.Kind t) = spelled after i ≡ tree.Kind t
-IsNodeTree before after i (tree.Method m) = spelled after i ≡ tree.Method m
-IsNodeTree before after i tree.Other = spelled after i ≡ tree.Other
-IsNodeTree before after i (tree.Zero n) = (n ≡ i) × IsUnknown before i
+abbrev pub IsNodeTree : CatData → (ℕ → ℕ) → (ℕ → ℕ) → ℕ → NodeTree → Type 0
+IsNodeTree cat before after i (tree.Kind t) = spelled after i ≡ tree.Kind t
+IsNodeTree cat before after i (tree.Method m) = spelled after i ≡ tree.Method m
+IsNodeTree cat before after i tree.Other = spelled after i ≡ tree.Other
+IsNodeTree cat before after i (tree.Zero n) = (n ≡ i) × IsUnknown cat before i
 
 -- the same of its template
 abbrev pub IsNodeTemplate : CatData → (ℕ → ℕ) → (ℕ → ℕ) → ℕ → NodeTemplate → Type 0
 IsNodeTemplate cat before after i (template.Listed es) = (es ≡ template_at cat after i) × (after i ≢ 0)
-IsNodeTemplate cat before after i (template.Zero n) = (n ≡ i) × IsUnknown before i
+IsNodeTemplate cat before after i (template.Zero n) = (n ≡ i) × IsUnknown cat before i
 
 -- the types of a node's arguments are read, through the words held after
 abbrev pub AreTypes : (ℕ → ℕ) → ℕ → List ℕ → Types → Type 0

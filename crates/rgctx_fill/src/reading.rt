@@ -4,6 +4,7 @@ ghost use Rattle.rgctx_words.specs.Regions.{node_count};
 ghost use Rattle.rgctx_words.specs.NodeWords.{node_read};
 ghost use Rattle.rgctx_words.specs.Held.{Grows};
 ghost use Rattle.rgctx_template.specs.declared.catalogue.Catalogue.{Catalogue};
+ghost use Rattle.rgctx_template.specs.Catalogue.{data_of};
 ghost use Rattle.rgctx_fill.specs.Spelled.{argument_fields};
 ghost use Rattle.rgctx_fill.specs.Reading.{IsNodeTree, AreTypes};
 
@@ -44,7 +45,7 @@ pub fn node_tree<W: Words<Fits>>(
     ensures only { W.alone words.old ≡ true → (j : ℕ) → W.held words.new j ≡ W.held words.old j }
     ensures met { (under : Catalogue) → W.meets under words.old → W.meets under words.new }
 
-    ensures tree { W.meets cat.now words.old → IfOk result (λ tree. IsNodeTree (W.held words.old) (W.held words.new) node tree) }
+    ensures tree { W.meets cat.now words.old → IfOk result (λ tree. IsNodeTree (data_of cat.now) (W.held words.old) (W.held words.new) node tree) }
 {
     let word = words.load(u32::from(node));
     if word == 0 {

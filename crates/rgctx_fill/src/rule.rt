@@ -12,7 +12,7 @@ impl WordsRule for Fits {
     ghost use Rattle.rgctx_fill.specs.Fitting.{AreFitting};
     ghost use Rattle.rgctx_fill.specs.Claims as claims;
     ghost use Rattle.rgctx_fill.specs.ClaimLaws as laws;
-    ghost use Rattle.rgctx_fill.specs.NamedLaws.{leaf-used, names-used};
+    ghost use Rattle.rgctx_fill.specs.LeafLaws.{leaf-used};
 
     type Cat = Catalogue<'static>;
 
@@ -22,11 +22,11 @@ impl WordsRule for Fits {
 
     ghost always = { claims.Always };
 
-    ghost names = { claims.Names };
+    ghost names = { λ cat held i. claims.Shows (data_of cat) held i };
 
     ghost claim_fits = { λ cat words held i word count fits within low nonzero small was may. laws.claim_fits (data_of cat) words held i word count fits within low was may };
 
     ghost always_there = { λ cat words i fits leaf. leaf-used (data_of cat) (λ k. slice_index words k) i fits leaf };
 
-    ghost named_there = { λ cat words i j low fits used named. names-used (data_of cat) (λ k. slice_index words k) fits i j low used named };
+    ghost named_there = { λ cat words held i count fits within shown. shown (λ k. slice_index words k) fits within };
 }

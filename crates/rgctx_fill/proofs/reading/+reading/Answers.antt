@@ -37,8 +37,8 @@ argument_types-returns-in-Method-clause-types g t c meets =
     (continues-on old new node c.args.fields.now c.loop-field.types (drop c.loop-field.field-index c.args.fields.now) c.node_tree.ensures.grows (inv.reads meets)) in
     let read = c.in_ok-tree.ensures.tree m in
     ⊎_elim
-    (λ (p : (x : MethodTree) × (c.in_ok-tree.field-0 ≡ tree.Method x)). argument-no_method (λ k. slice_index s.words k) new s.within node a type p.0 (subst (IsNodeTree old new a) p.1 read))
-    (λ (e : c.in_ok-tree.field-0 ≡ tree.Other). argument-no_other (λ k. slice_index s.words k) new s.within node a type (subst (IsNodeTree old new a) e read))
+    (λ (p : (x : MethodTree) × (c.in_ok-tree.field-0 ≡ tree.Method x)). argument-no_method (λ k. slice_index s.words k) new s.within node a type p.0 (subst (IsNodeTree (data_of under) old new a) p.1 read))
+    (λ (e : c.in_ok-tree.field-0 ≡ tree.Other). argument-no_other (λ k. slice_index s.words k) new s.within node a type (subst (IsNodeTree (data_of under) old new a) e read))
     c.in-Method.is
 
 pub argument_types-loop-field-preserved : goal.argument_types-loop-field-preserved
@@ -60,6 +60,6 @@ argument_types-loop-field-preserved g t c =
           let stays = continues-on old new node c.args.fields.now c.loop-field.types (drop c.loop-field.field-index c.args.fields.now) c.node_tree.ensures.grows (inv.reads meets) in
           subst (λ ts. Continues new node c.args.fields.now ts (drop (c.loop-field.field-index + 1) c.args.fields.now)) (sym (c.in_ok-put-in-Kind.ensures {u = tt}))
           (continues-more new node c.args.fields.now c.loop-field.types a (drop (c.loop-field.field-index + 1) c.args.fields.now) c.in-Kind.tree c.if-field-eq0.false c.if-field-node.false
-          (subst (IsNodeTree old new a) c.in-Kind.is read)
+          (subst (IsNodeTree (data_of c.args.cat.now) old new a) c.in-Kind.is read)
           (subst (Continues new node c.args.fields.now c.loop-field.types) (field-first c.args.fields.now c.loop-field.field-index c.loop-field-test.true) stays));
     }

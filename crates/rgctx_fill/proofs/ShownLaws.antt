@@ -1,43 +1,17 @@
--- The leaves hold words, and so does what a word names.
-use Rattle.std.proofs.Common.{◌≡◌, ◌≢◌, ⊎_elim, ℕ, zero, suc, ◌-◌, ◌/◌, ◌%◌, ◌<◌, ◌≤◌, List, [], ◌∷◌, length, sym, ap, ◌∙◌, subst, arith}
-use Rattle.std.specs.Prelude.{slice_index}
-use Rattle.std.specs.List.{AllByRecursion}
+-- What held words show: that their own indexes, the leaves, and what words name hold words.
+use Rattle.std.proofs.Common.{◌≡◌, ◌≢◌, ⊎_elim, ℕ, ◌-◌, ◌/◌, ◌%◌, ◌<◌, ◌≤◌, sym, ap, ◌∙◌, subst, arith}
 use Rattle.std.proofs.lemmas.Bool.{cases_eq, cases_lt}
-use Rattle.il_model.specs.declared.program.Program.{Program}
 use Rattle.rgctx_words.specs.declared.directory.DirectoryWord.{DirectoryWord}
 use Rattle.rgctx_words.specs.declared.place.ContextPlace.TheVariants as place
 use Rattle.rgctx_words.specs.Regions.{word_count, node_count, row_count, row_words, directory_at, roots_at, rows_at, directory_index, root_index, row_index, row_address}
 use Rattle.rgctx_words.specs.Directory.{directory_read}
+use Rattle.rgctx_words.specs.Held.{Grows}
 use Rattle.rgctx_template.specs.Catalogue.{CatData}
-use Rattle.rgctx_fill.specs.Leaves.{IsLeaf, leaf_words, opening}
+use Rattle.rgctx_fill.specs.Leaves.{IsLeaf}
 use Rattle.rgctx_fill.specs.Fitting.{directory, use_of, IsRowOf, IsNext, AreFitting}
-use Rattle.rgctx_fill.specs.Claims.{IsOfRow, NamesFrom, Names}
+use Rattle.rgctx_fill.specs.Claims.{IsOfRow, NamesFrom, Names, IsSure, Shows}
 use Rattle.rgctx_fill.specs.PlaceLaws.{node-place, directory-place, root-place, link-place, entry-place}
-
--- ---- leaves
-
-used_at : (xs : List ℕ) → AllByRecursion (λ w. w ≢ 0) xs → (k : ℕ) → k < length xs → slice_index xs k ≢ 0
-used_at [] all k less = absurd (omega arith)
-used_at (x ∷ xs) all zero less = all.0
-used_at (x ∷ xs) all (suc k) less = used_at xs all.1 k (omega arith)
-
-infixr 5 ◌▸◌
-◌▸◌ : {A B : Type 0} → A → B → A × B
-x ▸ y = (x, y)
-
-leaves_used : (program : Program) → AllByRecursion (λ w. w ≢ 0) (leaf_words program)
-leaves_used program =
-    (λ z. omega arith) ▸ (λ z. omega arith) ▸ (λ z. omega arith) ▸ (λ z. omega arith) ▸ (λ z. omega arith) ▸
-    (λ z. omega arith) ▸ (λ z. omega arith) ▸ (λ z. omega arith) ▸ (λ z. omega arith) ▸ (λ z. omega arith) ▸
-    (λ z. omega arith) ▸ (λ z. omega arith) ▸ (λ z. omega arith) ▸ (λ z. omega arith) ▸ (λ z. omega arith) ▸
-    (λ z. omega arith) ▸ (λ z. omega arith) ▸ (λ z. omega arith) ▸ (λ z. omega arith) ▸ (λ z. omega arith) ▸ tt
-
-pub opening-used : (program : Program) (i : ℕ) → IsLeaf i → opening program i ≢ 0
-opening-used program zero leaf = absurd (omega arith)
-opening-used program (suc k) leaf = used_at (leaf_words program) (leaves_used program) k (omega arith)
-
-pub leaf-used : (cat : CatData) (at : ℕ → ℕ) (i : ℕ) → AreFitting cat at → IsLeaf i → at i ≢ 0
-leaf-used cat at i fits leaf z = opening-used cat.program i leaf (sym (fits.leaves i leaf) ∙ z)
+use Rattle.rgctx_fill.specs.LeafLaws.{leaf-used}
 
 -- ---- what a word names
 
@@ -125,3 +99,22 @@ module _ (cat : CatData) (at : ℕ → ℕ) (fits : AreFitting cat at) where
       (cases_lt i rows_at))
       (cases_lt i roots_at))
       (cases_lt i node_count)
+
+-- ---- what held words show
+
+module _ (cat : CatData) (held : ℕ → ℕ) where
+  -- what is sure stays sure as more is held
+  pub sure-grows : (later : ℕ → ℕ) (P : (ℕ → ℕ) → Type 0) → Grows held later → IsSure cat held P → IsSure cat later P
+  sure-grows later P grows sure at fits within = sure at fits (λ j used. within j (λ z. used (sym (grows j used) ∙ z)) ∙ grows j used)
+
+  -- a held word shows its index
+  pub shows-held : (i : ℕ) → held i ≢ 0 → Shows cat held i
+  shows-held i used at fits within z = used (sym (within i used) ∙ z)
+
+  pub shows-leaf : (i : ℕ) → IsLeaf i → Shows cat held i
+  shows-leaf i leaf at fits within = leaf-used cat at i fits leaf
+
+  -- it shows what it names
+  pub shows-named : (i j : ℕ) → i < word_count → held i ≢ 0 → Names i (held i) j → Shows cat held j
+  shows-named i j low used named at fits within =
+      names-used cat at fits i j low (λ z. used (sym (within i used) ∙ z)) (subst (λ w. Names i w j) (sym (within i used)) named)
