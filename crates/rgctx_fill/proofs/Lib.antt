@@ -4,3 +4,5 @@ pub mod ReadingLemmas
 pub mod QuietLemmas
 pub mod Opening
 pub mod ShownLaws
+pub mod EntryLaws
+pub mod TextLeaves

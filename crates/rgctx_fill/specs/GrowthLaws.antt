@@ -44,7 +44,7 @@ within-used cat (tree.Method m) n h = refl
 within-used cat tree.Other n h = refl
 within-used cat (tree.Zero m) n h = absurd (omega arith)
 
-type_used : (b : Bool) (s : NodeTree) (t : TExpr) → (if b then type_in s else None) ≡ Some t → is_zero s ≡ false
+pub type_used : (b : Bool) (s : NodeTree) (t : TExpr) → (if b then type_in s else None) ≡ Some t → is_zero s ≡ false
 type_used true (tree.Kind u) t h = refl
 type_used true (tree.Method m) t h = refl
 type_used true tree.Other t h = refl

@@ -1,5 +1,5 @@
 -- The value that an entry of a node names. This project's own.
-use Rattle.std.specs.Prelude.{◌≡◌, ℕ, ◌+◌, ◌-◌, ◌*◌, ◌<◌, Bool, not, List, [], ◌++◌, length, take, count_by, slice_get, Option, Some, None, option_map, option_and_then, if◌then◌else◌}
+use Rattle.std.specs.Prelude.{◌≡◌, ℕ, ◌+◌, ◌-◌, ◌*◌, ◌%◌, ◌<◌, Bool, not, List, [], ◌++◌, length, take, count_by, slice_get, Option, Some, None, option_map, option_and_then, if◌then◌else◌}
 use Rattle.type_tree.specs.declared.tree.TExpr.{TExpr}
 use Rattle.il_model.specs.declared.class.FieldDef.{FieldDef}
 use Rattle.il_model.specs.declared.entry.Entry.{Entry}
@@ -114,3 +114,12 @@ pub record IsNamed (cat : CatData) (at : ℕ → ℕ) (i number value : ℕ) : T
   pub entry : Entry
   pub is : slice_get (template_at cat at i) number ≡ Some entry
   pub names : IsValue cat at (spelled at i) (entry_at (spelled at i) entry) value
+
+-- the node that the value of an entry names, where it names one
+abbrev pub node_in : Entry → ℕ → Option ℕ
+node_in (entry.Kind t) value = Some value
+node_in (entry.Method number class args) value = Some (value % 65536)
+node_in (entry.Size t) value = None
+node_in (entry.Extent t) value = None
+node_in (entry.Offset t place) value = None
+node_in (entry.Slot number) value = Some (value % 65536)

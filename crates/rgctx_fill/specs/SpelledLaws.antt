@@ -85,7 +85,7 @@ from-zero f i word e = let t : (word == 0) ≡ true = eq-eqb word 0 e in rw t re
 pub from-used : (f : ℕ → NodeTree) (i word : ℕ) → word ≢ 0 → spelled_from f i word ≡ spelled_by f (node_read word)
 from-used f i word ne = let t : (word == 0) ≡ false = grind (arith, nat_tests) in rw t refl
 
-no_zero_word : (f : ℕ → NodeTree) (i word : ℕ) → is_zero (spelled_from f i word) ≡ false → word ≢ 0
+pub no_zero_word : (f : ℕ → NodeTree) (i word : ℕ) → is_zero (spelled_from f i word) ≡ false → word ≢ 0
 no_zero_word f i word h z = no_zero (ap is_zero (sym (from-zero f i word z)) ∙ h)
 
 module _ (at later : ℕ → ℕ) (grows : Grows at later) where
