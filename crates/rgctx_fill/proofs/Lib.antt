@@ -6,3 +6,4 @@ pub mod Opening
 pub mod ShownLaws
 pub mod EntryLaws
 pub mod TextLeaves
+pub mod OpeningWords

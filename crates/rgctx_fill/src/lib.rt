@@ -2,6 +2,7 @@
 #![tactic(auto)]
 
 mod applying;
+mod beginning;
 pub mod laws;
 mod reading;
 mod rule;
@@ -10,5 +11,6 @@ mod templating;
 #[cfg(test)]
 mod tests;
 
+pub use beginning::opening_words;
 pub use rule::Fits;
 pub use spelled::{NodeTemplate, NodeTree};
