@@ -1,5 +1,5 @@
 -- What entries, roots and links show to one who holds them: whose row it is, and the node that an entry of a type, a method or a slot names.
-use Rattle.std.proofs.Common.{◌≡◌, ◌≢◌, ℕ, ◌+◌, ◌*◌, ◌%◌, ◌<◌, false, Option, Some, None, refl, sym, ap, ◌∙◌, subst, arith}
+use Rattle.std.proofs.Common.{◌≡◌, ◌≢◌, ℕ, ◌+◌, ◌*◌, ◌%◌, ◌<◌, false, Option, Some, None, sym, ap, ◌∙◌, subst, arith}
 use Rattle.std.specs.Prelude.{nat_lt, slice_get}
 use Rattle.il_model.specs.declared.entry.Entry.{Entry}
 use Rattle.il_model.specs.declared.entry.Entry.TheVariants as entry
@@ -12,7 +12,7 @@ use Rattle.rgctx_fill.specs.declared.spelled.NodeTree.{NodeTree}
 use Rattle.rgctx_fill.specs.Spelled.{spelled_below, spelled}
 use Rattle.rgctx_fill.specs.Templates.{template_at}
 use Rattle.rgctx_fill.specs.NamedValues.{IsMethodValue, IsSlotValue, IsValue, IsNamed, entry_at, method_in_slot, node_in}
-use Rattle.rgctx_fill.specs.Fitting.{directory, use_of, IsRowOf, IsNext, IsEntry, AreFitting}
+use Rattle.rgctx_fill.specs.Fitting.{directory, use_of, IsRowOf, IsNext, IsEntry}
 use Rattle.rgctx_fill.specs.Claims.{IsSure, Shows}
 use Rattle.rgctx_fill.specs.SpelledLaws.{is_zero, no_zero_word, spelled-grows}
 use Rattle.rgctx_fill.specs.GrowthLaws.{type_used, use-grows}

@@ -1,19 +1,18 @@
 -- The program of an accepted text begins with the predefined classes and methods, and its entry point and the class of that have no variables.
-use Rattle.std.proofs.Common.{◌≡◌, ◌⊎◌, ⊎_elim, inl, inr, ℕ, zero, suc, ◌+◌, ◌<◌, ◌≤◌, List, [], ◌∷◌, ◌++◌, length, map, Option, Some, None, refl, sym, ap, ◌∙◌, subst, arith}
+use Rattle.std.proofs.Common.{◌≡◌, ◌⊎◌, ⊎_elim, inl, inr, ℕ, zero, suc, ◌+◌, ◌≤◌, List, [], ◌∷◌, ◌++◌, length, map, Some, refl, sym, ap, ◌∙◌, subst, arith}
 use Rattle.std.specs.Prelude.{slice_get, Contains, option_map}
 use Rattle.std.proofs.lemmas.List.{length-append}
 use Rattle.std.proofs.lemmas.List.Elements.{All-contains}
 use Rattle.std.proofs.lemmas.Option.{slice_get_within, get_or_from_slice_get, slice_get-map}
 use Rattle.il_model.specs.declared.class.ClassDef.{ClassDef}
-use Rattle.il_model.specs.declared.method.MethodDef.{MethodDef}
 use Rattle.il_model.specs.declared.program.Program.{Program}
 use Rattle.il_model.specs.declared.written.WrittenMethod.{WrittenMethod}
 use Rattle.il_model.specs.declared.written.WrittenClass.{WrittenClass}
 use Rattle.il_model.specs.Names.{Each, end, both}
 use Rattle.il_model.specs.Bounds.{methods_of, all_methods}
 use Rattle.il_model.specs.Library.{library_classes, library_methods}
-use Rattle.il_model.specs.LookUp.{Known, NamesMethod, NamesClass, NamesClasses, no_classes, more_classes, Owned, owned_from, NamesOwned, has_entry, entries_from, MayBegin, EntriesFit, known_of, NamesProgram}
-use Rattle.il_model.specs.Accepted.{IsWritten, IsProgramText, IsOfText}
+use Rattle.il_model.specs.LookUp.{Known, NamesClass, NamesClasses, no_classes, more_classes, Owned, owned_from, NamesOwned, has_entry, entries_from, MayBegin, EntriesFit, known_of}
+use Rattle.il_model.specs.Accepted.{IsProgramText, IsOfText}
 use Rattle.rgctx_fill.specs.Predefined.{HasLeaves}
 
 -- ---- items of lists

@@ -1,12 +1,13 @@
 // The words with which each run begins.
-ghost use Rattle.std.specs.Prelude.{◌≡◌, ◌<◌, ◌≤◌, ◌-◌, ℕ, ◌∷◌, ◌++◌, IfOk, length, replicate, slice_index};
+ghost use Rattle.std.specs.Prelude.{◌≡◌, ◌<◌, ◌≤◌, ◌+◌, ◌-◌, ℕ, ◌∷◌, ◌++◌, IfOk, length, replicate, slice_index};
+ghost use Rattle.il_model.specs.declared.program.Program.{Program};
 ghost use Rattle.il_model.specs.Accepted.{IsOfText};
 ghost use Rattle.rgctx_words.specs.Regions.{word_count};
 ghost use Rattle.rgctx_words.specs.NodeWords.{IsNumbered};
 ghost use Rattle.rgctx_words.specs.Held.{AreFit};
 ghost use Rattle.rgctx_template.specs.declared.catalogue.Catalogue.{Catalogue};
 ghost use Rattle.rgctx_template.specs.Catalogue.{HasMain, data_of};
-ghost use Rattle.rgctx_fill.specs.Leaves.{word_with, word_alone, leaf_words, opening};
+ghost use Rattle.rgctx_fill.specs.Leaves.{word_with, word_alone, main_class, leaf_words, opening};
 ghost use Rattle.rgctx_fill.specs.Predefined.{HasLeaves};
 ghost use Rattle.rgctx_fill.specs.Fitting.{AreFitting};
 
@@ -25,18 +26,27 @@ pub fn opening_words(alloc: Global, program: &Program) -> Result<PlainWords, NoM
     ensures count { IfOk result (λ words. length words ≡ word_count) }
     ensures fit { (cat : Catalogue) → cat.program.now ≡ program.now → IfOk result (λ words. AreFit (λ ws. AreFitting (data_of cat) (λ i. slice_index ws i)) words) }
 {
-    let leaves = leaf_words(program);
+    let owner = main_class(program);
+    let leaves = leaf_words(program.main, owner);
     let words = padded(alloc, &leaves)?;
     Ok(PlainWords::of(words))
 }
 
-// The words of the leaves, behind the word of the number 0, which names no node.
-fn leaf_words(program: &Program) -> [u64; 21]
+// The number of the class of the entry point.
+fn main_class(program: &Program) -> u16
     requires { HasLeaves program.now }
-    ensures { result ≡ 0 ∷ leaf_words program.now }
+    ensures { result ≡ main_class program.now }
 {
-    let main = program.main;
-    let owner = program.methods.as_slice()[main as usize].owner;
+    program.methods.as_slice()[program.main as usize].owner
+}
+
+// The words of the leaves, where the entry point is this method of this class, behind the word of the number 0, which
+// names no node.
+pub(crate) fn leaf_words(main: u16, owner: u16) -> [u64; 21]
+    requires main { main < 0x8000 }
+    requires owner { 16 + owner < 0x8000 }
+    ensures { (program : Program) → program.main ≡ main → main_class program ≡ owner → result ≡ 0 ∷ leaf_words program }
+{
     [
         0,
         alone(Definition::Image),

@@ -1,3 +1,4 @@
-// The readers, on words written by hand.
+// The readers and the leaves, on words written by hand.
 mod forgetful;
+mod leaves;
 mod readers;
