@@ -14,3 +14,5 @@ pub mod SizingLemmas
 pub mod OpeningLemmas
 pub mod AdmissionLemmas
 pub mod LayingLemmas
+pub mod FedLemmas
+pub mod KnownLemmas

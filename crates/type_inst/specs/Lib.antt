@@ -4,3 +4,4 @@ pub mod Matching
 pub mod Opening
 pub mod Sizing
 pub mod Judging
+pub mod Fed

@@ -4,9 +4,8 @@ ghost use Rattle.type_tree.specs.declared.tree.TExpr.{TExpr};
 ghost use Rattle.type_inst.specs.Sizing.{seen_row, found_parts, IsOpened};
 ghost use Rattle.type_inst.specs.Opening.{Extends};
 
-use crate::equality::is_same;
 use crate::fields::parts_of;
-use crate::steps::put;
+use crate::known::{Kinds, place_of};
 use il_model::Program;
 use mn_outside::NoMemory;
 use sqlite_items::Items;
@@ -25,14 +24,14 @@ pub(crate) struct Table {
 pub(crate) fn opened(alloc: Global, program: &Program, kinds: &[TExpr]) -> Result<Table, NoMemory>
     ensures { IfOk result (λ table. IsOpened program.now kinds.now table.places table.rows) }
 {
-    let mut all: Items<TExpr> = Items::new(alloc);
+    let mut all = Kinds::new(alloc);
     let places = places_of(alloc, &mut all, kinds)?;
     let mut rows: Items<Option<Items<usize>>> = Items::new(alloc);
     for i in 0..usize::MAX {
-        if i >= all.len() {
+        let Some(kind) = all.get(i) else {
             return Ok(Table { places, rows });
-        }
-        let parts = parts_of(alloc, program, &all.as_slice()[i])?;
+        };
+        let parts = parts_of(alloc, program, kind)?;
         let row = row_of(alloc, &mut all, parts)?;
         put_row(&mut rows, row)?;
     }
@@ -51,7 +50,7 @@ fn put_row(
 // The row of a type with these parts. Parts that aren't in the list are put at its end.
 fn row_of(
     alloc: Global,
-    all: &mut Items<TExpr>,
+    all: &mut Kinds,
     parts: Option<Items<TExpr>>,
 ) -> Result<Option<Items<usize>>, NoMemory>
     ensures kept { OnOk result (Extends all.old all.new) }
@@ -64,11 +63,7 @@ fn row_of(
 }
 
 // The places of these types in the list. Those that aren't in it are put at its end.
-fn places_of(
-    alloc: Global,
-    all: &mut Items<TExpr>,
-    kinds: &[TExpr],
-) -> Result<Items<usize>, NoMemory>
+fn places_of(alloc: Global, all: &mut Kinds, kinds: &[TExpr]) -> Result<Items<usize>, NoMemory>
     ensures kept { OnOk result (Extends all.old all.new) }
     ensures places { IfOk result (λ places. map (slice_get all.new) places ≡ map Some kinds.now) }
 {
@@ -84,29 +79,4 @@ fn put_place(places: &mut Items<usize>, place: usize) -> Result<(), NoMemory>
     ensures { OnOk result (places.new ≡ places.old ++ place ∷ []) }
 {
     places.push(place).map_err(|_| NoMemory)
-}
-
-// The place of a type in the list. One that isn't in it is put at its end.
-fn place_of(alloc: Global, all: &mut Items<TExpr>, kind: &TExpr) -> Result<usize, NoMemory>
-    ensures kept { OnOk result (Extends all.old all.new) }
-    ensures place { IfOk result (λ place. slice_get all.new place ≡ Some kind.now) }
-{
-    if let Some(place) = place_in(all.as_slice(), kind) {
-        return Ok(place);
-    }
-    let place = all.len();
-    put(all, kind.copy(alloc)?)?;
-    Ok(place)
-}
-
-// A place of the type in the list, if it is in it.
-fn place_in(kinds: &[TExpr], kind: &TExpr) -> Option<usize>
-    ensures { IfSome result (λ place. slice_get kinds.now place ≡ Some kind.now) }
-{
-    for i in 0..kinds.len() {
-        if is_same(&kinds[i], kind) {
-            return Some(i);
-        }
-    }
-    None
 }
