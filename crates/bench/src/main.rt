@@ -4,6 +4,7 @@
 mod cases;
 mod memory;
 mod requests;
+mod texts;
 
 use mn_outside::NoMemory;
 use std::alloc::{AllocError, Global};
@@ -59,6 +60,9 @@ fn main(rt: HostRuntime) -> io::Result<()> {
     let first = number(words.as_slice(), 1);
     if case == "tokens" {
         let line = tokens_line(alloc, first, number(words.as_slice(), 2))?;
+        println!(rt; "{line}")?;
+    } else if case == "parse" {
+        let line = texts::parse_line(alloc, first, number(words.as_slice(), 2))?;
         println!(rt; "{line}")?;
     } else if case == "steps" {
         let line = steps_line(alloc, first)?;

@@ -1,50 +1,72 @@
 -- What the top call promises.
-use Rattle.std.specs.Prelude.{◌≡◌, ◌≢◌, ◌≤◌, ◌+◌, ◌*◌, ◌⊎◌, ℕ, List, Option, Some, None, ⊤, length}
+use Rattle.std.specs.Prelude.{◌≡◌, ◌≢◌, ◌≤◌, ◌+◌, ◌*◌, ◌⊎◌, ℕ, List, Option, Some, None, Result, Ok, Err, ⊤, length}
 use Rattle.mn_outside.specs.Causes.{Held, Holds, Rose}
 use Rattle.interaction.specs.History.{Legal}
 use Rattle.run_top.specs.declared.first.FirstOp.{FirstOp}
+use Rattle.il_model.specs.declared.program.Program.{Program}
+use Rattle.il_parse.specs.declared.fault.ParseFault.{ParseFault}
+use Rattle.il_parse.specs.declared.answer.Parsed.{Parsed}
+use Rattle.il_parse.specs.Answer.{Parses, IsAnswer}
 use Rattle.store_object.specs.Replay.{store}
 use Rattle.run_top.specs.declared.record.RunRecord.{RunRecord}
+use Rattle.run_top.specs.declared.refusal.TextRefusal.{TextRefusal}
+use Rattle.run_top.specs.declared.refusal.TextRefusal.TheVariants.{Parser, Form}
 use Rattle.run_top.specs.FirstForm.{IsFirstForm}
 use Rattle.run_top.specs.Process.{begin, meaning, naming}
 use Rattle.run_top.specs.Code.{frame_words, image_of}
 use Rattle.run_top.specs.Run.{IsRun, image_run}
 use Rattle.run_top.specs.Executed.{AllExecuted, AllFirst, EndsSo}
 use Rattle.run_top.specs.Command.{IsCommand, IsUsage}
-use Rattle.run_top.specs.Written.{usage_line, first_form_line, file_line}
+use Rattle.run_top.specs.Written.{usage_line, refusal_line, file_line}
 
--- no program has this text
-abbrev pub IsRefused : List ℕ → Type 0
-IsRefused text = (ops : List FirstOp) → ¬ IsFirstForm text ops
+-- why a text is refused, from what the text is: by the parser, or since its program isn't of the first form
+pub data RefusedBy (Is : Result Parsed ParseFault → Type 0) : TextRefusal → Type 0 where
+  by_parser : (fault : ParseFault) → Is (Err fault) → RefusedBy Is (Parser fault)
+  by_form : (parsed : Parsed) → Is (Ok parsed) → ((ops : List FirstOp) → ¬ IsFirstForm parsed.program ops) → RefusedBy Is Form
 
--- a run of the program in the text of a file, at most so many turns long
-pub record IsRunOf (held : Option Held) (name : List ℕ) (limit : ℕ) (r : RunRecord) : Type 0 where
-  -- the text, which is the file's where it is told what is held, spells this program
-  pub text : (text : List ℕ) × Holds held name text × IsFirstForm text r.program.code.items
-  pub image : r.image.items ≡ image_of r.program.code.items
+-- a run of a program of the first form, at most so many turns long
+pub record IsProgramRun (limit : ℕ) (program : Program) (r : RunRecord) : Type 0 where
+  pub program_is : r.program ≡ program
+  -- the program has these instructions
+  pub ops : List FirstOp
+  pub form : IsFirstForm program ops
+  pub image : r.image.items ≡ image_of ops
   -- turns, history and ending are those of the image's run
-  pub run : IsRun (image_run r.image.items (frame_words r.program.code.items) limit) r.turns.items r.history.items r.ending
+  pub run : IsRun (image_run r.image.items (frame_words ops) limit) r.turns.items r.history.items r.ending
   -- the program's thread makes exactly these requests when it is given these replies, which the store gives
-  pub legal : Legal store naming (meaning r.program.code.items) begin r.history.items
+  pub legal : Legal store naming (meaning ops) begin r.history.items
   -- they are those of this form
   pub requests : AllFirst r.history.items
   pub executed : AllExecuted r.image.items r.turns.items
   pub ends : EndsSo limit r.turns.items r.history.items r.ending
-  pub few : length r.turns.items ≤ 1024 * (length r.program.code.items + 1)
+  pub few : length r.turns.items ≤ 1024 * (length ops + 1)
+
+-- a run of the program that a text is, and it is nothing else
+pub record IsTextRun (limit : ℕ) (text : List ℕ) (r : RunRecord) : Type 0 where
+  pub parsed : Parsed
+  pub parses : IsAnswer text (Ok parsed)
+  pub run : IsProgramRun limit parsed.program r
+
+-- a run of the program in the text of a file, which is the file's where it is told what is held
+pub record IsRunOf (held : Option Held) (name : List ℕ) (limit : ℕ) (r : RunRecord) : Type 0 where
+  pub text : List ℕ
+  pub is_held : Holds held name text
+  pub run : IsTextRun limit text r
 
 -- the run of a command
 abbrev pub IsKept : List (List ℕ) → Option Held → RunRecord → Type 0
 IsKept words held r = (name : List ℕ) × (limit : ℕ) × IsCommand words name limit × IsRunOf held name limit r
 
 -- the file of a command was read, and its text is refused
-abbrev pub HasRefusedText : List (List ℕ) → Option Held → Type 0
-HasRefusedText words held = (name : List ℕ) × (limit : ℕ) × (text : List ℕ) × IsCommand words name limit × Holds held name text × IsRefused text
+abbrev pub HasRefusedText : List (List ℕ) → Option Held → TextRefusal → Type 0
+HasRefusedText words held why =
+    (name : List ℕ) × (limit : ℕ) × (text : List ℕ) × IsCommand words name limit × Holds held name text × RefusedBy (IsAnswer text) why
 
 -- why there is no run, with the status and the line of each cause: the words are no command;
 -- the text of its file is refused; or reading this file failed
 pub data Refuses (words : List (List ℕ)) (held : Option Held) (faults_before faults_now : List ℕ → ℕ) : ℕ → List ℕ → Type 0 where
   usage : IsUsage words → Refuses words held faults_before faults_now 1 usage_line
-  text : HasRefusedText words held → Refuses words held faults_before faults_now 2 first_form_line
+  text : (why : TextRefusal) → HasRefusedText words held why → Refuses words held faults_before faults_now 2 (refusal_line why)
   file : (name : List ℕ) (limit : ℕ) → IsCommand words name limit → Rose (faults_before name) (faults_now name)
       → Refuses words held faults_before faults_now 8 (file_line name)
 
@@ -65,16 +87,16 @@ pub record IsUncut (status : ℕ) : Type 0 where
   pub put : status ≢ 9
   pub room : status ≢ 10
 
--- where it is told what is held: a command whose file holds a text that no program has is answered so
+-- where it is told what is held: a command whose file holds a text that is refused is answered so
 abbrev pub RefusesText : List (List ℕ) → Option Held → ℕ → Type 0
 RefusesText words None status = ⊤
 RefusesText words (Some held) status =
-    (name : List ℕ) (limit : ℕ) (text : List ℕ) → IsCommand words name limit → held name ≡ Some text → IsRefused text
+    (name : List ℕ) (limit : ℕ) (text : List ℕ) (why : TextRefusal) → IsCommand words name limit → held name ≡ Some text → RefusedBy (Parses text) why
     → status ≢ 8 → IsUncut status → status ≡ 2
 
--- and one whose file holds the text of a program is run
+-- and one whose file holds the text of a program of the first form is run
 abbrev pub RunsText : List (List ℕ) → Option Held → ℕ → Type 0
 RunsText words None status = ⊤
 RunsText words (Some held) status =
-    (name : List ℕ) (limit : ℕ) (text : List ℕ) (ops : List FirstOp) → IsCommand words name limit → held name ≡ Some text
-    → IsFirstForm text ops → status ≢ 8 → IsUncut status → IsRunStatus status
+    (name : List ℕ) (limit : ℕ) (text : List ℕ) (parsed : Parsed) (ops : List FirstOp) → IsCommand words name limit → held name ≡ Some text
+    → Parses text (Ok parsed) → IsFirstForm parsed.program ops → status ≢ 8 → IsUncut status → IsRunStatus status

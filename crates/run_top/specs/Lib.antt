@@ -1,4 +1,4 @@
-pub mod FirstWords
+pub mod WellFormed
 pub mod Values
 pub mod Process
 pub mod Code

@@ -4,7 +4,7 @@ ghost use Rattle.rv_isa.specs.Word.{word_of};
 ghost use Rattle.run_top.specs.WellFormed.{AllFind, FindsOperands, depth_after};
 ghost use Rattle.run_top.specs.Code.{image_of, offset, op_code};
 
-use il_model::FirstOp;
+use crate::first::FirstOp;
 use rv_isa::{Imm12, Imm20, Instr, Reg, encode};
 use std::alloc::{AllocError, Global};
 

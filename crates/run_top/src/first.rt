@@ -1,8 +1,8 @@
-// Programs of the first form: one static method that adds numbers and prints them.
+// Instructions of the first form: what each asks of the stack.
 ghost use Rattle.std.specs.Prelude.{◌≡◌, ◌≤◌, ◌↔◌, IsTrue};
 ghost use Rattle.run_top.specs.WellFormed.{AllFind, FindsOperands, IsFine, IsWellFormed, deepest, depth_after};
 
-/// One instruction of a method. The forms are those of ECMA-335, Partition III.
+/// An instruction of the first form. The forms are those of ECMA-335, Partition III.
 #[derive(Clone, Copy, Debug, PartialEq, Eq)]
 pub enum FirstOp {
     /// `ldc.i4 N`: pushes an int32.
@@ -15,29 +15,21 @@ pub enum FirstOp {
     Ret,
 }
 
-/// A program of the first form: the instructions of its one method, in order.
-#[derive(Drop)]
-pub struct FirstProgram {
-    pub code: Vec<FirstOp>,
+/// Whether there are at most 16,384 instructions, each finds its operands, the stack is at most
+/// 120 deep, and one `ret` stands last, at the empty stack.
+pub(crate) fn is_well_formed(code: &[FirstOp]) -> bool
+    ensures { IsTrue result ↔ IsWellFormed code.now }
+{
+    code.len() <= 16384 && is_fine(code)
 }
 
-impl FirstProgram {
-    /// Whether there are at most 16,384 instructions, each finds its operands, the stack is at most
-    /// 120 deep, and one `ret` stands last, at the empty stack.
-    pub fn is_well_formed(&self) -> bool
-        ensures { IsTrue result ↔ IsWellFormed self.now.code.items }
-    {
-        self.code.len() <= 16384 && is_fine(self.code.as_slice())
-    }
-
-    /// The depth of the deepest stack, in values.
-    pub fn deepest_stack(&self) -> usize
-        requires { IsWellFormed self.now.code.items }
-        ensures value { result ≡ deepest 0 self.now.code.items }
-        ensures bound { result ≤ 120 }
-    {
-        deepest(self.code.as_slice())
-    }
+/// The depth of the deepest stack, in values.
+pub(crate) fn deepest_stack(code: &[FirstOp]) -> usize
+    requires { IsWellFormed code.now }
+    ensures value { result ≡ deepest 0 code.now }
+    ensures bound { result ≤ 120 }
+{
+    deepest(code)
 }
 
 // Whether the instructions are in order from the empty stack on.

@@ -1,26 +1,65 @@
 // The top call: words, file, text, program, run, lines.
-ghost use Rattle.std.specs.Prelude.{◌≡◌, ◌≢◌, ◌≤◌, ◌⊎◌, ◌↔◌, ℕ, List, Option, Some, None, Err, IfOk, IfSome, IfNone, IsSomeAnd};
+ghost use Rattle.std.specs.Prelude.{◌≡◌, ◌≢◌, ◌≤◌, ◌⊎◌, ◌↔◌, ℕ, List, Option, Some, None, Ok, Err, IfOk, IfSome, IfNone, IsSomeAnd};
 ghost use Rattle.std.specs.Io.KnownBytes.{Appends};
 ghost use Rattle.mn_outside.specs.Causes.{AppendsPrefix, AppendsTwo, Holds, NeverFall, Rose};
 ghost use Rattle.mn_outside.specs.declared.outside.Refused.TheVariants.{Fault};
+ghost use Rattle.il_parse.specs.Answer.{IsAnswer};
+ghost use Rattle.run_top.specs.declared.first.FirstOp.{FirstOp};
+ghost use Rattle.run_top.specs.declared.refusal.TextRefusal.{TextRefusal};
+ghost use Rattle.run_top.specs.declared.refusal.TextRefusal.TheVariants.{Form};
 ghost use Rattle.run_top.specs.declared.top.Refusal.TheVariants.{File, Text};
+ghost use Rattle.run_top.specs.FirstForm.{IsFirstForm};
 ghost use Rattle.run_top.specs.Command.{IsCommand, IsUsage};
-ghost use Rattle.run_top.specs.Headline.{IsKept, IsRefusalStatus, IsRefused, IsRunOf, IsRunStatus, IsStatus, IsUncut, Refuses, RefusesText, RunsText};
-ghost use Rattle.run_top.specs.Written.{Answers, file_line as the_file_line, first_form_line, no_memory_line, shown, status_of as the_status_of, usage_line};
+ghost use Rattle.run_top.specs.Headline.{IsKept, IsProgramRun, IsRefusalStatus, IsRunOf, IsRunStatus, IsStatus, IsTextRun, IsUncut, RefusedBy, Refuses, RefusesText, RunsText};
+ghost use Rattle.run_top.specs.Written.{Answers, file_line as the_file_line, no_memory_line, shown, refusal_line as the_refusal_line, status_of as the_status_of, usage_line};
 
 use crate::command::command;
 use crate::first_form::first_form;
 use crate::record::{Outcome, RunRecord};
+use crate::refusal::{TextRefusal, refusal_line};
 use crate::run::run_program;
-use crate::written::{FIRST_FORM, NO_MEMORY, USAGE, file_line, put, show_run, status_of};
+use crate::written::{NO_MEMORY, USAGE, file_line, put, show_run, status_of};
+use il_model::Program;
+use il_parse::parse;
 use mn_outside::{Failed, Files, Name, NoMemory, Refused, Sink};
 use std::alloc::Global;
 
 // Why a command has no run.
 #[derive(Clone, Copy, Debug, PartialEq, Eq)]
 pub(crate) enum Refusal {
-    Text,
+    Text(TextRefusal),
     File,
+}
+
+// The run of a program of the first form.
+fn run_parsed(
+    alloc: Global,
+    program: Program,
+    limit: u32,
+) -> Result<RunRecord, Refused<TextRefusal>>
+    ensures run { IfOk result (λ r. IsProgramRun limit program r) }
+    ensures refused { (why : TextRefusal) → result ≡ Err (Fault why) → (why ≡ Form) × ((ops : List FirstOp) → ¬ IsFirstForm program ops) }
+{
+    match first_form(alloc, &program) {
+        Ok(Some(ops)) => match run_program(alloc, program, ops.as_slice(), limit) {
+            Ok(run) => Ok(run),
+            Err(NoMemory) => Err(Refused::NoMemory),
+        },
+        Ok(None) => Err(Refused::Fault(TextRefusal::Form)),
+        Err(NoMemory) => Err(Refused::NoMemory),
+    }
+}
+
+// The run of the program that a text is.
+fn run_text(alloc: Global, text: &[u8], limit: u32) -> Result<RunRecord, Refused<TextRefusal>>
+    ensures run { IfOk result (λ r. IsTextRun limit text.now r) }
+    ensures refused { (why : TextRefusal) → result ≡ Err (Fault why) → RefusedBy (IsAnswer text.now) why }
+{
+    match parse(alloc, text) {
+        Ok(parsed) => run_parsed(alloc, parsed.program, limit),
+        Err(Refused::Fault(fault)) => Err(Refused::Fault(TextRefusal::Parser(fault))),
+        Err(Refused::NoMemory) => Err(Refused::NoMemory),
+    }
 }
 
 // The run of the program in a file's text.
@@ -30,8 +69,8 @@ fn run_file<F: Files>(
     limit: u32,
     files: &mut F,
 ) -> Result<RunRecord, Refused<Refusal>>
-    ensures run { IfOk result (IsRunOf (F.held files.old) name.now limit) }
-    ensures text { result ≡ Err (Fault Text) → (text : List ℕ) × Holds (F.held files.old) name.now text × IsRefused text }
+    ensures run { IfOk result (λ r. IsRunOf (F.held files.old) name.now limit r) }
+    ensures text { (why : TextRefusal) → result ≡ Err (Fault (Text why)) → (text : List ℕ) × Holds (F.held files.old) name.now text × RefusedBy (IsAnswer text) why }
     ensures file { result ≡ Err (Fault File) → Rose (F.read_faults files.old name.now) (F.read_faults files.new name.now) }
     ensures held { F.held files.new ≡ F.held files.old }
     ensures reads { NeverFall (F.read_faults files.old) (F.read_faults files.new) }
@@ -42,14 +81,10 @@ fn run_file<F: Files>(
         Err(Refused::Fault(Failed)) => return Err(Refused::Fault(Refusal::File)),
         Err(Refused::NoMemory) => return Err(Refused::NoMemory),
     };
-    let program = match first_form(alloc, bytes.as_slice()) {
-        Ok(Some(program)) => program,
-        Ok(None) => return Err(Refused::Fault(Refusal::Text)),
-        Err(NoMemory) => return Err(Refused::NoMemory),
-    };
-    match run_program(alloc, program, limit) {
+    match run_text(alloc, bytes.as_slice(), limit) {
         Ok(run) => Ok(run),
-        Err(NoMemory) => Err(Refused::NoMemory),
+        Err(Refused::Fault(why)) => Err(Refused::Fault(Refusal::Text(why))),
+        Err(Refused::NoMemory) => Err(Refused::NoMemory),
     }
 }
 
@@ -100,9 +135,9 @@ fn no_memory<K: Sink>(kept: Option<RunRecord>, out: &mut K) -> Outcome
 
 /// The whole program: `exec F @all 0 TURNS`, where `words` are those after the program's name.
 /// It reads the text of F, compiles its program, runs the image for at most TURNS turns, and writes what the run
-/// shows, a line at a time. A text that isn't in the first form is refused.
-/// Status 0 is a run that came to its end, and 5 one that was cut at TURNS; 1 `Usage`; 2 `Text 1:1 FirstForm`;
-/// 8 `File NAME`; 9 a fault of the sink; 10 `No memory`, the one answer without a cause.
+/// shows, a line at a time. A text is refused at its first fault, and a program that isn't of the first form whole.
+/// Status 0 is a run that came to its end, and 5 one that was cut at TURNS; 1 `Usage`; 2 `Text L:C CAUSE` with line
+/// and column of the fault, or `Text 1:1 FirstForm`; 8 `File NAME`; 9 a fault of the sink; 10 `No memory`, the one answer without a cause.
 pub fn aot_main<F: Files, K: Sink>(
     alloc: Global,
     words: &[Name],
@@ -125,7 +160,7 @@ pub fn aot_main<F: Files, K: Sink>(
     ensures none { IsRefusalStatus result.status → result.kept ≡ None }
 
     // Where neither the sink nor the memory cut the answer short, 1 comes exactly where the words are no command, and
-    // of a file that could be read, 2 exactly where no program has its text.
+    // of a file that could be read, 2 exactly where its text is refused.
     ensures usage { IsUncut result.status → ((result.status ≡ 1) ↔ IsUsage words.now) }
     ensures refused { RefusesText words.now (F.held files.old) result.status }
     ensures runs { RunsText words.now (F.held files.old) result.status }
@@ -159,7 +194,10 @@ pub fn aot_main<F: Files, K: Sink>(
     };
     match run_file(alloc, name, limit, files) {
         Ok(run) => finish(alloc, run, out),
-        Err(Refused::Fault(Refusal::Text)) => refuse(2, FIRST_FORM, out),
+        Err(Refused::Fault(Refusal::Text(why))) => match refusal_line(alloc, why) {
+            Ok(line) => refuse(2, line.as_str(), out),
+            Err(NoMemory) => no_memory(None, out),
+        },
         Err(Refused::Fault(Refusal::File)) => match file_line(alloc, name) {
             Ok(line) => refuse(8, line.as_str(), out),
             Err(NoMemory) => no_memory(None, out),

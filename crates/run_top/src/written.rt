@@ -14,8 +14,6 @@ use store_object::{Ending, Event, Form, Request};
 
 pub(crate) const USAGE: &str = "Usage\n";
 
-pub(crate) const FIRST_FORM: &str = "Text 1:1 FirstForm\n";
-
 pub(crate) const NO_MEMORY: &str = "No memory\n";
 
 const TURNS_ARE_USED_UP: &str = "Stopped: Turns\n";
