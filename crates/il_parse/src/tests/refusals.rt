@@ -48,7 +48,7 @@ fn refuses_text_and_missing_entries(rt: HostRuntime) {
 #[test]
 fn refuses_syntax(rt: HostRuntime) {
     use ParseCause::Syntax;
-    let rows: [Row; 24] = [
+    let rows: [Row; 23] = [
         (b".class P {", 1, 11, Syntax),
         (b"P", 1, 1, Syntax),
         (b".class { }", 1, 8, Syntax),
@@ -57,7 +57,6 @@ fn refuses_syntax(rt: HostRuntime) {
         (b".class P<> { }", 1, 10, Syntax),
         (b".class P implements { }", 1, 21, Syntax),
         (b".class P { .field int32 }", 1, 25, Syntax),
-        (b".class P { .field void f }", 1, 26, Syntax),
         (b".class P { .method int32& f() { } }", 1, 25, Syntax),
         (b".class P { .method newslot void f() { } }", 1, 28, Syntax),
         (b".class P { .method virtual void f<T>() { } }", 1, 34, Syntax),
@@ -119,8 +118,9 @@ fn refuses_what_stands_twice(rt: HostRuntime) {
 #[test]
 fn refuses_names_that_nothing_has(rt: HostRuntime) {
     use ParseCause::UnknownName;
-    let rows: [Row; 20] = [
+    let rows: [Row; 21] = [
         (b".class P extends Q { }", 1, 18, UnknownName),
+        (b".class P { .field void f }", 1, 19, UnknownName),
         (b".class P implements object, Q { }", 1, 29, UnknownName),
         (b".class P<T : Q> { }", 1, 14, UnknownName),
         (b".class P<T : !1> { }", 1, 14, UnknownName),
