@@ -5,8 +5,6 @@ use Rattle.std.specs.List.{find}
 use Rattle.std.specs.Map.{lookup}
 use Rattle.std.specs.Cmp.Lexicographic.{nat_list_eq_equiv, bytes_decides}
 use Rattle.std.proofs.lemmas.Bool.{false≢true}
-use Rattle.std.proofs.Math.Seq.{drop-cons}
-use Rattle.std.proofs.Math.Numerals.{suc-eq-add-one}
 use Rattle.il_model.specs.declared.written.WrittenName.{WrittenName}
 use Rattle.il_model.specs.declared.written.WrittenInstr.{WrittenInstr}
 use Rattle.il_model.specs.declared.written.WrittenLine.{WrittenLine}
@@ -14,14 +12,11 @@ use Rattle.il_model.specs.declared.written.WrittenLine.TheVariants as line
 use Rattle.il_model.specs.LookUp.{labels_from}
 use Rattle.il_parse.specs.NamedBodies.{number_of_label}
 use Rattle.il_parse.specs.Labels.{noted}
+use Rattle.il_parse.proofs.EachLemmas.{seam}
 
--- the item at a place, before those behind it
-pub item_at : {A : Type 0} (xs : List A) (i : ℕ) (x : A) → i < length xs → x ≡ slice_index_or xs i x → drop i xs ≡ x ∷ drop (i + 1) xs
-item_at xs i x inside read = drop-cons xs i x inside ∙ (λ j. sym read j ∷ drop (suc-eq-add-one i j) xs)
-
--- the same, where the item is known as this
+-- the item at a place, known as this, in front of those behind it
 pub item_as : {A : Type 0} (xs : List A) (i : ℕ) (x y : A) → i < length xs → x ≡ slice_index_or xs i x → x ≡ y → drop i xs ≡ y ∷ drop (i + 1) xs
-item_as xs i x y inside read is = item_at xs i x inside read ∙ ap (λ z. z ∷ drop (i + 1) xs) is
+item_as xs i x y inside read is = seam xs i x inside read ∙ ap (λ z. z ∷ drop (i + 1) xs) is
 
 -- what was noted comes before this one, and this one before the rest
 first_wins : (held : Option ℕ) (b : Bool) (name : List ℕ) (number : ℕ) (rest : Option (List ℕ × ℕ)) →

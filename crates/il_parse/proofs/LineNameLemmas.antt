@@ -1,5 +1,5 @@
 -- What the lines of a body stand for, one line after another.
-use Rattle.std.proofs.Common.{◌≡◌, ◌∙◌, ℕ, ◌+◌, ◌<◌, ◌≤◌, Bool, true, false, List, [], ◌∷◌, ◌++◌, length, drop, slice_index_or, if◌then◌else◌, Ok, Err, refl, sym, ap}
+use Rattle.std.proofs.Common.{◌≡◌, ◌∙◌, ℕ, ◌+◌, ◌≤◌, Bool, true, false, List, [], ◌∷◌, ◌++◌, length, drop, if◌then◌else◌, Ok, refl, ap}
 use Rattle.std.proofs.Math.ListN.{drop_of_length-le}
 use Rattle.il_model.specs.declared.op.Op.{Op}
 use Rattle.il_model.specs.declared.written.WrittenName.{WrittenName}
@@ -8,10 +8,8 @@ use Rattle.il_model.specs.declared.written.WrittenLine.{WrittenLine}
 use Rattle.il_model.specs.declared.written.WrittenLine.TheVariants as line
 use Rattle.il_model.specs.Lexemes.{is_among}
 use Rattle.il_model.specs.Names.{Scope}
-use Rattle.il_parse.specs.declared.fault.Fault.{Fault}
 use Rattle.il_parse.specs.Looking.{Look, ◌>>=◌, once, repeated}
 use Rattle.il_parse.specs.NamedBodies.{instr_named, lines_named}
-use Rattle.il_parse.proofs.LabelLemmas.{item_at}
 
 module _ (s : Scope) (literals : List (List ℕ)) (labels : List (List ℕ × ℕ)) (met : List (List ℕ)) (found : List Op) (lines : List WrittenLine) (i : ℕ) where
   abbrev rest : List (List ℕ) → List Op → Look (List Op)

@@ -4,10 +4,7 @@ use Rattle.std.proofs.lemmas.Bool.{le-leb, lt-leb}
 use Rattle.mn_outside.specs.declared.outside.Refused.{Refused}
 use Rattle.mn_outside.specs.declared.outside.Refused.TheVariants as refused
 use Rattle.il_text.specs.declared.token.Token.{Token}
-use Rattle.il_text.specs.declared.fault.TextFault.{TextFault}
 use Rattle.il_text.specs.Tokens.{AreTokens}
-use Rattle.il_text.specs.Faults.{fault_of}
-use Rattle.il_text.specs.Readings.{IsUnreadable}
 use Rattle.il_model.specs.declared.program.Program.{Program}
 use Rattle.il_model.specs.declared.written.WrittenClass.{WrittenClass}
 use Rattle.il_model.specs.Lexemes.{Lexeme}
@@ -19,8 +16,10 @@ use Rattle.il_parse.specs.declared.answer.Parsed.{Parsed}
 use Rattle.il_parse.specs.Reading.{Read, Reads}
 use Rattle.il_parse.specs.Looking.{Look, Looks}
 use Rattle.il_parse.specs.Classes.{outcome}
-use Rattle.il_parse.specs.Answer.{parsed, Parses, readable, unreadable, unreadable_at, IsAnswer, answer_for, answer_with, located, short_enough, too_long}
+use Rattle.il_parse.specs.Answer.{parsed, Parses, readable, IsAnswer, answer_for, answer_with, located, short_enough, too_long}
+use Rattle.il_parse.specs.Accepted.{IsAccepted}
 use Rattle.il_parse.specs.Parsing.{Answers, refusal}
+use Rattle.il_parse.proofs.TextsNamed.{parses_once, accepted_sound}
 
 -- what is read, the lexemes behind it left aside
 pub read_looks : {A : Type 0} (read : Read A) (result : Result A ReadError) (new : List Lexeme) → Reads read result new → Looks (outcome read) result
@@ -28,34 +27,30 @@ read_looks read (Ok x) new is = ap outcome is
 read_looks read (Err (error.Fault fault)) new is = ap outcome is
 read_looks read (Err error.Memory) new is = tt
 
--- a text with tokens is what they give, and nothing else
-module _ (text : List ℕ) (tokens : List Token) (are : AreTokens text tokens) (unique : (others : List Token) → AreTokens text others → others ≡ tokens)
-    (sound : fault_of text ≡ None) where
-  only_parsed : (other : Result Parsed ParseFault) → Parses text other → other ≡ parsed text tokens
-  only_parsed other (unreadable fault is) = absurd (cc)
-  only_parsed other (readable others theirs) = ap (parsed text) (unique others theirs)
+-- what a text is, it is alone
+pub answer_alone : (text : List ℕ) (r : Result Parsed ParseFault) → Parses text r → IsAnswer text r
+answer_alone text r p = record { parses = p; only = λ other q. parses_once text other r q p }
 
-  parsed_answer : IsAnswer text (parsed text tokens)
-  parsed_answer = record { parses = readable tokens are; only = only_parsed }
-
-  pub ok_by_tokens : (result : Result Parsed (Refused ParseFault)) → Answers (parsed text tokens) result → IfOk result (λ p. IsAnswer text (Ok p))
-  ok_by_tokens (Ok p) is = subst (IsAnswer text) is parsed_answer
+-- the answer by the tokens of a text is what the text is
+module _ (text : List ℕ) (tokens : List Token) (are : AreTokens text tokens) where
+  pub ok_by_tokens : (result : Result Parsed (Refused ParseFault)) → Answers (parsed text tokens) result → IfOk result (λ p. Parses text (Ok p))
+  ok_by_tokens (Ok p) is = subst (Parses text) is (readable tokens are)
   ok_by_tokens (Err e) is = tt
 
   pub fault_by_tokens : (result : Result Parsed (Refused ParseFault)) → Answers (parsed text tokens) result → (f : ParseFault) →
-      result ≡ Err (refused.Fault f) → IsAnswer text (Err f)
+      result ≡ Err (refused.Fault f) → Parses text (Err f)
   fault_by_tokens (Ok p) answers f is = absurd (cc)
-  fault_by_tokens (Err (refused.Fault g)) answers f is = let same : g ≡ f = cc in subst (λ h. IsAnswer text (Err h)) same (subst (IsAnswer text) answers parsed_answer)
+  fault_by_tokens (Err (refused.Fault g)) answers f is = let same : g ≡ f = cc in subst (λ h. Parses text (Err h)) same (subst (Parses text) answers (readable tokens are))
   fault_by_tokens (Err refused.NoMemory) answers f is = absurd (cc)
 
--- a text without tokens is refused for its fault, and nothing else
-module _ (text : List ℕ) (fault : TextFault) (is_refused : IsUnreadable text fault) where
-  only_unreadable : (other : Result Parsed ParseFault) → Parses text other → other ≡ Err (unreadable_at text fault)
-  only_unreadable other (unreadable others is) = let same : others ≡ fault = cc (is_refused.place) in ap (λ f. Err (unreadable_at text f)) same
-  only_unreadable other (readable tokens are) = absurd (is_refused.unread tokens are)
+-- a program that a text is, is its one answer, and is accepted
+pub ok_answer : (text : List ℕ) (result : Result Parsed (Refused ParseFault)) → IfOk result (λ p. Parses text (Ok p)) → IfOk result (λ p. IsAnswer text (Ok p))
+ok_answer text (Ok p) is = answer_alone text (Ok p) is
+ok_answer text (Err e) is = tt
 
-  pub unreadable_answer : IsAnswer text (Err (unreadable_at text fault))
-  unreadable_answer = record { parses = unreadable fault is_refused.place; only = only_unreadable }
+pub ok_accepted : (text : List ℕ) (result : Result Parsed (Refused ParseFault)) → IfOk result (λ p. Parses text (Ok p)) → IfOk result (IsAccepted text)
+ok_accepted text (Ok p) is = accepted_sound text p is
+ok_accepted text (Err e) is = tt
 
 -- a refusal of the syntax
 pub syntax_refused : (text : List ℕ) (look : Look (List WrittenClass)) (e : ReadError) → Looks look (Err e) →

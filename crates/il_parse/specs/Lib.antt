@@ -25,8 +25,8 @@ pub mod NamedClasses
 pub mod Gathering
 pub mod EntryPoints
 pub mod Answer
-pub mod Accepted
 pub mod Places
 pub mod Parsing
+pub mod Accepted
 pub mod Lines
 pub mod Calls

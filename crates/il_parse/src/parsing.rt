@@ -8,6 +8,7 @@ ghost use Rattle.il_parse.specs.declared.fault.ReadError.TheVariants as error;
 ghost use Rattle.il_parse.specs.Cursor.{AreReadable};
 ghost use Rattle.il_parse.specs.Looking.{Looks};
 ghost use Rattle.il_parse.specs.Classes.{read_program};
+ghost use Rattle.il_parse.specs.Accepted.{IsAccepted, IsOfNone};
 ghost use Rattle.il_parse.specs.Answer as spec;
 ghost use Rattle.il_parse.specs.Parsing.{Answers, refusal};
 
@@ -32,7 +33,10 @@ const MOST_BYTES: u64 = 4_194_304;
 /// which the text is refused, with its cause.
 pub fn parse(alloc: Global, text: &[u8]) -> Result<Parsed, Refused<ParseFault>>
     ensures ok { IfOk result (λ parsed. spec.IsAnswer text.now (Ok parsed)) }
+    ensures accepted { IfOk result (IsAccepted text.now) }
+
     ensures fault { (f : ParseFault) → result ≡ Err (refused.Fault f) → spec.IsAnswer text.now (Err f) }
+    ensures no_program { (f : ParseFault) → result ≡ Err (refused.Fault f) → IsOfNone text.now }
 {
     match tokens(alloc, text) {
         Ok(tokens) => parsed(alloc, text, tokens.as_slice()),
