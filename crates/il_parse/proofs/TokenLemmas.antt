@@ -12,8 +12,9 @@ empty_slice text from to order = let none : to - from ≡ 0 = omega arith in ap 
 
 some_bytes : (text : List ℕ) (t : Token) → spells t.kind (slice_range text t.from t.to) ≡ true → t.from < t.to
 some_bytes text t spelled = elim (cases_lt t.from t.to) [
-    | inl order ↦ order
-    | inr order ↦ absurd (false≢true (sym (nothing_spelled t.kind) ∙ ap (spells t.kind) (sym (empty_slice text t.from t.to order)) ∙ spelled)) ]
+  | inl order ↦ order
+  | inr order ↦ absurd (false≢true (sym (nothing_spelled t.kind) ∙ ap (spells t.kind) (sym (empty_slice text t.from t.to order)) ∙ spelled))
+]
 
 next_readable : (text : List ℕ) (at : ℕ) (t : Token) → IsNext text at t → IsReadable text t
 next_readable text at t next =

@@ -18,11 +18,7 @@ use type_tree::{Head, TExpr, TNode};
 /// The types one step from a type of its closure: its base, the interfaces that its class names, and its
 /// fields of value types, static ones too, with the arguments put. Those with a wrong number of arguments
 /// are passed over.
-pub fn steps_of(
-    alloc: Global,
-    program: &Program,
-    kind: &TExpr,
-) -> Result<Items<TExpr>, NoMemory>
+pub fn steps_of(alloc: Global, program: &Program, kind: &TExpr) -> Result<Items<TExpr>, NoMemory>
     ensures { IfOk result (λ steps. steps ≡ steps_of program.now kind.now) }
 {
     let mut all = base_list(alloc, program, kind)?;

@@ -28,7 +28,13 @@ fn a_method_has_16384_instructions(rt: HostRuntime) -> Result<(), Fail> {
     let text = repeated(alloc, MAIN, b"nop ", 16384, b"} }")?;
     assert!(rt; parse(alloc, text.as_slice()).is_ok());
     let text = repeated(alloc, MAIN, b"nop\n", 16384, b"ret } }")?;
-    check_fault(&rt, parse(alloc, text.as_slice()), 16386, 1, ParseCause::TooMany);
+    check_fault(
+        &rt,
+        parse(alloc, text.as_slice()),
+        16386,
+        1,
+        ParseCause::TooMany,
+    );
     Ok(())
 }
 
@@ -36,9 +42,21 @@ fn a_method_has_16384_instructions(rt: HostRuntime) -> Result<(), Fail> {
 fn a_text_has_4083_classes_of_its_own(rt: HostRuntime) -> Result<(), Fail> {
     let alloc = rt.alloc();
     let text = repeated(alloc, b"", b".class P { }\n", 4083, b"")?;
-    check_fault(&rt, parse(alloc, text.as_slice()), 2, 8, ParseCause::Repeated);
+    check_fault(
+        &rt,
+        parse(alloc, text.as_slice()),
+        2,
+        8,
+        ParseCause::Repeated,
+    );
     let text = repeated(alloc, b"", b".class P { }\n", 4083, b" .class P { }")?;
-    check_fault(&rt, parse(alloc, text.as_slice()), 4084, 2, ParseCause::TooMany);
+    check_fault(
+        &rt,
+        parse(alloc, text.as_slice()),
+        4084,
+        2,
+        ParseCause::TooMany,
+    );
     Ok(())
 }
 
@@ -47,9 +65,21 @@ fn a_text_has_16372_methods_of_its_own(rt: HostRuntime) -> Result<(), Fail> {
     let alloc = rt.alloc();
     let one = b".method void f();\n";
     let text = repeated(alloc, b".class P {\n", one, 16372, b"}")?;
-    check_fault(&rt, parse(alloc, text.as_slice()), 3, 14, ParseCause::Repeated);
+    check_fault(
+        &rt,
+        parse(alloc, text.as_slice()),
+        3,
+        14,
+        ParseCause::Repeated,
+    );
     let text = repeated(alloc, b".class P {\n", one, 16372, b"  .method")?;
-    check_fault(&rt, parse(alloc, text.as_slice()), 16374, 3, ParseCause::TooMany);
+    check_fault(
+        &rt,
+        parse(alloc, text.as_slice()),
+        16374,
+        3,
+        ParseCause::TooMany,
+    );
     Ok(())
 }
 
@@ -57,11 +87,29 @@ fn a_text_has_16372_methods_of_its_own(rt: HostRuntime) -> Result<(), Fail> {
 fn a_type_has_256_positions(rt: HostRuntime) -> Result<(), Fail> {
     let alloc = rt.alloc();
     let text = repeated(alloc, b".class P { .field int32", b"[]", 255, b" f }")?;
-    check_fault(&rt, parse(alloc, text.as_slice()), 1, 538, ParseCause::NoEntry);
+    check_fault(
+        &rt,
+        parse(alloc, text.as_slice()),
+        1,
+        538,
+        ParseCause::NoEntry,
+    );
     let text = repeated(alloc, b".class P { .field int32", b"[]", 256, b" f }")?;
-    check_fault(&rt, parse(alloc, text.as_slice()), 1, 534, ParseCause::TooMany);
+    check_fault(
+        &rt,
+        parse(alloc, text.as_slice()),
+        1,
+        534,
+        ParseCause::TooMany,
+    );
     let text = repeated(alloc, b".class P { .field ", b"P<", 256, b"int32")?;
-    check_fault(&rt, parse(alloc, text.as_slice()), 1, 531, ParseCause::TooMany);
+    check_fault(
+        &rt,
+        parse(alloc, text.as_slice()),
+        1,
+        531,
+        ParseCause::TooMany,
+    );
     Ok(())
 }
 

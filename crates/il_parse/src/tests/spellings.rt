@@ -169,7 +169,8 @@ const LIBRARY: [(&[u8], &[u8]); 15] = [
     (b"call void Rt.Threads::Join(int32)", b"call void Rt.Threads :: Join ( int32 )"),
 ];
 
-const FRONT: &[u8] = b".class P {\n  .field int32[] f\n  .method static void Main ( ) {\n    .entrypoint\n    ";
+const FRONT: &[u8] =
+    b".class P {\n  .field int32[] f\n  .method static void Main ( ) {\n    .entrypoint\n    ";
 
 // A method with one instruction and an end.
 fn text_with(alloc: Global, instr: &[u8]) -> Result<Vec<u8>, Fail> {
@@ -187,7 +188,10 @@ fn check(rt: &impl Abort, alloc: Global, rows: &[(&[u8], &[u8])]) -> Result<(), 
         let mut want = Vec::from_slice(alloc, FRONT)?;
         want.extend_from_slice(*line)?;
         want.push(b'\n')?;
-        assert!(rt; printed.as_slice().starts_with(want.as_slice()), "{spelling:?}");
+        assert!(rt;
+            printed.as_slice().starts_with(want.as_slice()),
+            "{spelling:?}"
+        );
         match parsed.program.methods.as_slice().last() {
             Some(method) => match &method.body {
                 Some(body) => assert_eq!(rt; body.code.len(), 2),
