@@ -41,8 +41,6 @@ mod sizes;
 mod stacks;
 mod step;
 mod taking;
-#[cfg(test)]
-mod tests;
 mod type_set;
 mod vectors;
 mod verified;
