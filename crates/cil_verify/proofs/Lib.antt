@@ -18,3 +18,4 @@ pub mod JudgingLemmas
 pub mod ItemsLemmas
 pub mod RulesLemmas
 pub mod FormsLemmas
+pub mod VerdictLemmas
