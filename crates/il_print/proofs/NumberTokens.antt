@@ -27,7 +27,7 @@ more_run n acc e =
     let low : n % 10 < 10 = omega arith in
     and_from (is_digit (digit_glyph false (n % 10))) (list_all is_digit acc) (glyph_is_digit (n % 10) low) e
 
-run_all : (ds : List ℕ) → is_run is_digit ds ≡ true → list_all is_digit ds ≡ true
+pub run_all : (ds : List ℕ) → is_run is_digit ds ≡ true → list_all is_digit ds ≡ true
 run_all [] e = refl
 run_all (d ∷ ds) e = e
 
@@ -73,7 +73,7 @@ abbrev next_digit : ℕ → ℕ → ℕ
 next_digit value d = 10 * value + digit_value d
 
 -- the digits give the number
-decimal_value : (n : ℕ) → n < 2 ^ 64 → digits_value 10 (decimal n) ≡ n
+pub decimal_value : (n : ℕ) → n < 2 ^ 64 → digits_value 10 (decimal n) ≡ n
 decimal_value =
     decimal_by_steps (λ n ds. digits_value 10 ds ≡ n)
     (λ n low. let last = eqb-true (digit_value (48 + n)) n (digit_value-glyph n low) in ap (λ d. 10 * 0 + d) last ∙ omega arith)
@@ -85,7 +85,7 @@ decimal_value =
 
 -- ---- numbers
 
-no_digit : (b n : ℕ) → is_digit b ≡ true → is_digit n ≡ false → (b == n) ≡ false
+pub no_digit : (b n : ℕ) → is_digit b ≡ true → is_digit n ≡ false → (b == n) ≡ false
 no_digit b n e f = false_from_ne_true (b == n) (λ same. both_ways (is_digit n) f (ap is_digit (sym (eqb-true b n same)) ∙ e))
 
 no_byte : (b n : ℕ) (bs : List ℕ) → (b == n) ≡ false → after_byte n (b ∷ bs) ≡ None
@@ -99,11 +99,11 @@ no_0x : (t : Bool) (bs : List ℕ) → list_all is_digit bs ≡ true → option_
 no_0x true bs e = no_x bs e
 no_0x false bs e = refl
 
-digits_unsigned : (ds : List ℕ) → is_run is_digit ds ≡ true → unsigned_value ds ≡ digits_value 10 ds
+pub digits_unsigned : (ds : List ℕ) → is_run is_digit ds ≡ true → unsigned_value ds ≡ digits_value 10 ds
 digits_unsigned [] e = absurd (true≢false (sym e))
 digits_unsigned (d ∷ ds) e = ap (λ o. value_of o (d ∷ ds)) (no_0x (d == 48) ds (and_parts (is_digit d) (list_all is_digit ds) e).1)
 
-digits_magnitude : (ds : List ℕ) → is_run is_digit ds ≡ true → magnitude_of ds ≡ digits_value 10 ds
+pub digits_magnitude : (ds : List ℕ) → is_run is_digit ds ≡ true → magnitude_of ds ≡ digits_value 10 ds
 digits_magnitude [] e = absurd (true≢false (sym e))
 digits_magnitude (d ∷ ds) e =
     ap (λ o. unsigned_value (unwrap_or o (d ∷ ds))) (no_byte d 45 ds (no_digit d 45 (and_parts (is_digit d) (list_all is_digit ds) e).0 refl))
