@@ -1,17 +1,15 @@
 -- How the tokens of a text and those of its canonical text are alike: the same, or another name for `object` or `string`, or variables.
-use Rattle.std.proofs.Common.{◌≡◌, ℕ, zero, suc, ◌+◌, ◌<◌, ◌==◌, ◌&&◌, Bool, true, false, if◌then◌else◌, not, cond, List, [], ◌∷◌, ◌++◌, length, map, drop, Option, Some, None, is_some, unwrap_or, refl, sym, ap, ◌∙◌, subst, codes, decimal, arith, Contains, bytes_eq, slice_get, position, lt-ltb, inl, inr, nat_lt}
-use Rattle.std.specs.List.{AllByRecursion, list_all, position_or_len}
-use Rattle.std.proofs.lemmas.Bool.{true≢false, cases_Bool, and_parts, and_from, or_parts}
-use Rattle.std.proofs.lemmas.Slice.Eq.{bytes_eq-Decides}
+use Rattle.std.proofs.Common.{◌≡◌, ℕ, ◌&&◌, Bool, true, false, if◌then◌else◌, List, [], ◌∷◌, ◌++◌, map, drop, is_some, unwrap_or, refl, sym, ap, ◌∙◌, codes, decimal}
+use Rattle.std.specs.List.{list_all}
+use Rattle.std.proofs.lemmas.Bool.{true≢false, and_parts, and_from}
 use Rattle.type_tree.specs.declared.tree.TExpr.{TExpr}
 use Rattle.type_tree.specs.declared.tree.Head.TheVariants as head
-use Rattle.type_tree.specs.Tree.{node}
 use Rattle.type_tree.specs.Printed.{class_name}
 use Rattle.type_tree.proofs.TreeLemmas.{folded-node, folded-class_var, folded-method_var}
 use Rattle.il_text.specs.declared.token.TokenKind.{TokenKind}
 use Rattle.il_text.specs.declared.token.TokenKind.TheVariants as token
 use Rattle.il_text.specs.Bytes.{is_digit}
-use Rattle.il_text.specs.Spelling.{spells, is_variable, is_number, is_text, is_mark, is_word, is_class_variable, is_method_variable, is_run, digits_value}
+use Rattle.il_text.specs.Spelling.{is_method_variable, is_run, digits_value}
 use Rattle.il_model.specs.declared.written.WrittenName.{WrittenName}
 use Rattle.il_model.specs.declared.written.WrittenType.{WrittenType}
 use Rattle.il_model.specs.declared.written.WrittenType as views
@@ -19,12 +17,11 @@ use Rattle.il_model.specs.declared.written.WrittenType.TheVariants as w
 use Rattle.il_model.specs.declared.written.WrittenType.TheOpen.{WrittenType-F}
 use Rattle.il_model.specs.declared.written.WrittenType.TheFolds.{fold-WrittenType, fold-roll-WrittenType}
 use Rattle.il_model.specs.Lexemes.{Lexeme}
-use Rattle.il_model.specs.Spellings.{plain_name}
-use Rattle.il_model.specs.Names.{Scope, IsVariable, class_number, NamesType, int32, int64, bool, object, string, class_variable, method_variable, class, vector, NamesTypes, no_types, more_types}
-use Rattle.il_model.specs.Canonical.{Word, long_names}
+use Rattle.il_model.specs.Names.{Scope, class_number, NamesType, int32, int64, bool, object, string, class_variable, method_variable, class, vector, NamesTypes, no_types, more_types}
+use Rattle.il_model.specs.Canonical.{long_names}
 use Rattle.type_tree.specs.declared.tree.TNode.TheVariants.{Node}
 use Rattle.il_print.proofs.NumberTokens.{no_digit}
-use Rattle.il_print.proofs.Keys.{Key, quoted, name_key, variable_key, keys_between, angled_keys, level_keys, type_keys}
+use Rattle.il_print.proofs.Keys.{Key, quoted, name_key, variable_key, angled_keys, level_keys, type_keys}
 
 abbrev pub is_no_mark : TokenKind → Bool
 is_no_mark token.Word = true
@@ -144,8 +141,8 @@ class_mark name (d ∷ ds) n e are is =
     ap (λ x. variable_text (is_method_variable x) x) e
     ∙ ap (λ b. variable_text b (33 ∷ d ∷ ds)) (no_second d ds (and_parts (is_digit d) (list_all is_digit ds) are).0)
     ∙ ap (λ m. codes "!" ++ decimal m) is where
-  no_second : (d : ℕ) (ds : List ℕ) → is_digit d ≡ true → is_method_variable (33 ∷ d ∷ ds) ≡ false
-  no_second d ds e = ap (λ t. t && is_run is_digit ds) (no_digit d 33 e refl)
+      no_second : (d : ℕ) (ds : List ℕ) → is_digit d ≡ true → is_method_variable (33 ∷ d ∷ ds) ≡ false
+      no_second d ds e = ap (λ t. t && is_run is_digit ds) (no_digit d 33 e refl)
 
 method_mark : (name digits : List ℕ) (n : ℕ) → name ≡ codes "!!" ++ digits → is_run is_digit digits ≡ true → digits_value 10 digits ≡ n →
     variable_text (is_method_variable name) name ≡ codes "!!" ++ decimal n

@@ -1,16 +1,13 @@
 -- A type that is printed as `object` is `object`.
-use Rattle.std.proofs.Common.{◌≡◌, ℕ, zero, suc, Bool, true, false, List, [], ◌∷◌, ◌++◌, map, Some, refl, sym, ap, ◌∙◌, codes, decimal, bytes_eq, slice_get, unwrap_or, append-nil, arith}
+use Rattle.std.proofs.Common.{◌≡◌, ℕ, zero, suc, true, false, List, [], ◌∷◌, ◌++◌, map, Some, refl, sym, ap, ◌∙◌, codes, bytes_eq, slice_get, unwrap_or, append-nil}
 use Rattle.std.proofs.lemmas.Bool.{true≢false}
 use Rattle.std.proofs.lemmas.Slice.Eq.{bytes_eq-Decides}
 use Rattle.type_tree.specs.declared.tree.TExpr.{TExpr}
-use Rattle.type_tree.specs.declared.tree.Head.{Head}
 use Rattle.type_tree.specs.declared.tree.Head.TheVariants as head
-use Rattle.type_tree.specs.declared.tree.TNode.TheVariants.{Node, ClassVar, MethodVar}
 use Rattle.type_tree.specs.Tree.{node}
 use Rattle.type_tree.specs.Printed.{class_name, listed}
 use Rattle.type_tree.proofs.TreeLemmas.{folded-node, folded-class_var, folded-method_var}
 use Rattle.il_model.specs.declared.written.WrittenType.{WrittenType}
-use Rattle.il_model.specs.Lexemes.{is_among}
 use Rattle.il_model.specs.Words.{quoted_words}
 use Rattle.il_model.specs.Library.{plain}
 use Rattle.il_model.specs.Names.{Scope, class_number, NamesType, int32, int64, bool, object, string, class_variable, method_variable, class, vector, no_types, more_types}
@@ -70,7 +67,7 @@ is_object s names written t (bool s' w' t' e f) is =
 is_object s names written t (object s' w' t' e f) is = f
 is_object s names written t (string s' w' t' e f) is =
     let text : type_text s.names t ≡ codes "string" =
-        ap (type_text s.names) f ∙ folded-node (level_text s.names) (head.Class 1) [] ∙ ap (λ ns. class_name ns 1 ++ []) names.begins
+    ap (type_text s.names) f ∙ folded-node (level_text s.names) (head.Class 1) [] ∙ ap (λ ns. class_name ns 1 ++ []) names.begins
     in
     absurd (apart (codes "string") (codes "object") refl (sym text ∙ is))
 is_object s names written t (class_variable s' w' t' v n e found below f) is =

@@ -1,8 +1,7 @@
 -- Bodies of a canonical text.
-use Rattle.std.proofs.Common.{◌≡◌, ℕ, zero, suc, ◌+◌, ◌<◌, ◌≤◌, ◌^◌, ◌==◌, ◌||◌, Bool, true, false, if◌then◌else◌, List, [], ◌∷◌, ◌++◌, length, map, flat_map, Option, Some, None, option_to_list, refl, sym, ap, ◌∙◌, subst, codes, decimal, arith, Contains, append_assoc, bytes_eq}
-use Rattle.std.specs.List.{AllByRecursion, list_any, IsDistinct}
+use Rattle.std.proofs.Common.{◌≡◌, ℕ, zero, suc, ◌+◌, ◌<◌, ◌≤◌, ◌^◌, Bool, true, false, if◌then◌else◌, List, [], ◌∷◌, ◌++◌, length, map, Option, Some, None, option_to_list, refl, sym, ap, ◌∙◌, subst, codes, arith, Contains, bytes_eq}
+use Rattle.std.specs.List.{AllByRecursion, IsDistinct}
 use Rattle.std.proofs.lemmas.Bool.{true≢false, or_left, or_right}
-use Rattle.il_model.specs.declared.form.Form.{Form}
 use Rattle.type_tree.specs.declared.tree.TExpr.{TExpr}
 use Rattle.il_model.specs.declared.op.Op.{Op}
 use Rattle.il_model.specs.declared.member.MRef.{MRef}
@@ -12,30 +11,26 @@ use Rattle.il_model.specs.declared.method.Sort.TheVariants as sort
 use Rattle.il_model.specs.declared.method.Clause.{Clause}
 use Rattle.il_model.specs.declared.method.Body.{Body}
 use Rattle.il_model.specs.declared.written.WrittenParam.{WrittenParam}
-use Rattle.il_model.specs.declared.written.WrittenMethodRef.{WrittenMethodRef}
-use Rattle.il_model.specs.declared.written.WrittenOperand.{WrittenOperand}
-use Rattle.il_model.specs.declared.written.WrittenOperand.TheVariants as operand
 use Rattle.il_model.specs.declared.written.WrittenInstr.{WrittenInstr}
 use Rattle.il_model.specs.declared.written.WrittenLine.{WrittenLine}
 use Rattle.il_model.specs.declared.written.WrittenLine.TheVariants as line
 use Rattle.il_model.specs.declared.written.WrittenClause.{WrittenClause}
 use Rattle.il_model.specs.declared.written.WrittenBody.{WrittenBody}
-use Rattle.il_model.specs.Lexemes.{Lexeme, Is, name_at, Many}
+use Rattle.il_model.specs.Lexemes.{Lexeme, name_at}
 use Rattle.il_model.specs.Forms.{called_method, operand_kind}
 use Rattle.il_model.specs.Ops.{method, form_of, operand_of}
 use Rattle.il_model.specs.Types.{IsParam}
-use Rattle.il_model.specs.Members.{IsMethodRef}
-use Rattle.il_model.specs.Instructions.{IsLabel, label_name, IsInstr, IsLibraryCall}
-use Rattle.il_model.specs.Bodies.{IsEntry, no_entry, entry, AreLocals, no_locals, locals, quoted_before, AreLines, no_lines, labelled, instruction, IsRange, range, IsClause, clause, IsBody, body}
+use Rattle.il_model.specs.Instructions.{IsLabel, label_name, IsInstr}
+use Rattle.il_model.specs.Bodies.{IsEntry, no_entry, entry, AreLocals, no_locals, locals, quoted_before, AreLines, no_lines, labelled, instruction, range, IsClause, clause, IsBody, body}
 use Rattle.il_model.specs.Bounds.{instrs_of}
 use Rattle.il_model.specs.Names.{Scope, Each, end, both, NamesType, NamesParam, NamesParams}
 use Rattle.il_model.specs.LookUp.{NamesLabel, labels_from, NamesInstr, NamesClause, NamesBody}
-use Rattle.il_model.specs.Canonical.{Word, Printing, label_text, passing, is_named, targets_of, ends_of, places_of}
-use Rattle.il_print.proofs.Keys.{Key, key_of, quoted, label_key, keys_between, type_keys, param_keys, params_keys, op_keys, code_keys, locals_keys, clause_keys, clauses_keys, entry_keys, printing_of, body_keys}
+use Rattle.il_model.specs.Canonical.{Word, Printing, label_text, passing, is_named, targets_of, ends_of}
+use Rattle.il_print.proofs.Keys.{key_of, quoted, label_key, keys_between, type_keys, param_keys, params_keys, op_keys, code_keys, locals_keys, clause_keys, clauses_keys, entry_keys, printing_of, body_keys}
 use Rattle.il_print.proofs.AgainKeys.{keys_first, keys_split, keys_one, keys_none, is_quoted, is_name}
 use Rattle.il_print.proofs.AgainScopes.{IsFair}
 use Rattle.il_print.proofs.AgainTypes.{type_again}
-use Rattle.il_print.proofs.AgainLists.{ItemAgain, Reads, separated_again, many_again, all_read, Enclosed, enclosed}
+use Rattle.il_print.proofs.AgainLists.{ItemAgain, Reads, separated_again, many_again, all_read, enclosed}
 use Rattle.il_print.proofs.AgainParams.{param_again}
 use Rattle.il_print.proofs.AgainMembers.{AreGenuine, genuine_front, genuine_back, genuine_rest}
 use Rattle.il_print.proofs.AgainForms.{suits, form_written}
@@ -43,7 +38,7 @@ use Rattle.il_print.proofs.AgainOps.{IsLabelled, IsOwnCall, instr_again}
 use Rattle.il_print.proofs.AgainInstrs.{instr_fits, form_has_text, IsReached, AreBefore, can_write}
 use Rattle.il_print.proofs.AgainCalls.{own_call}
 use Rattle.il_print.proofs.AgainLines.{marks_from, NoLabels, code_again}
-use Rattle.il_print.proofs.AgainLabels.{passing_has, each_number, each_item, marks_have, marks_distinct}
+use Rattle.il_print.proofs.AgainLabels.{passing_has, each_item, marks_have, marks_distinct}
 
 caught : Sort → TExpr → TExpr
 caught (sort.Catch t) other = t
@@ -89,9 +84,8 @@ module _ (s : Scope) (fair : IsFair s) (p : Printing) (same : p.names ≡ s.name
   code_reads written ops end spelled reached = tt
   code_reads written ops (both i op ws rest is are) spelled reached =
       let own : (m : MRef) → operand_kind (form_of op) ≡ called_method → operand_of op ≡ method m → IsOwnCall s.names m =
-          λ m called holds. own_call s fair p.literals labels spelled.0.lexemes i op m spelled.0.is spelled.0.genuine is called holds
-      in
-      (
+      λ m called holds. own_call s fair p.literals labels spelled.0.lexemes i op m spelled.0.is spelled.0.genuine is called holds
+      in (
         instr_again s fair p same marks op
             (can_write s p marks labels most before (operand_kind (form_of op)) (operand_of op) (suits op) i.operand is.operand
             (instr_fits spelled.0.lexemes i spelled.0.is spelled.0.genuine) reached.0 own)
@@ -110,8 +104,8 @@ module _ (s : Scope) (fair : IsFair s) (p : Printing) (same : p.names ≡ s.name
   unfolding caught is_catch
   clause_by_sort written c names reached ls (sort.Catch t) is e =
       let e1 : map key_of ls ≡ quoted (codes ".try") ∷ label_key p.places c.from ∷ quoted (codes "to") ∷ label_key p.places c.to ∷ quoted (codes "catch") ∷
-          type_keys s.names t ++ quoted (codes "handler") ∷ label_key p.places c.handler ∷ quoted (codes "to") ∷ label_key p.places c.end ∷ [] =
-          e ∙ ap (λ names. clause_keys (record p { names = names }) c (sort.Catch t)) same
+      type_keys s.names t ++ quoted (codes "handler") ∷ label_key p.places c.handler ∷ quoted (codes "to") ∷ label_key p.places c.end ∷ [] =
+      e ∙ ap (λ names. clause_keys (record p { names = names }) c (sort.Catch t)) same
       in
       let word = keys_first ls (quoted (codes ".try")) _ e1 in
       let from = keys_first word.rest (label_key p.places c.from) _ word.are in
@@ -132,9 +126,9 @@ module _ (s : Scope) (fair : IsFair s) (p : Printing) (same : p.names ≡ s.name
       let tried = from.lexeme ∷ to1.lexeme ∷ to.lexeme ∷ [] in
       let handled = start.lexeme ∷ to2.lexeme ∷ last.lexeme ∷ [] in
       let spelled : ls ≡ word.lexeme ∷ tried ++ catch.lexeme ∷ split.front ++ handler.lexeme ∷ handled =
-          word.split ∙ ap (λ z. word.lexeme ∷ z) (from.split ∙ ap (λ z. from.lexeme ∷ z) (to1.split ∙ ap (λ z. to1.lexeme ∷ z) (to.split ∙ ap (λ z. to.lexeme ∷ z)
-          (catch.split ∙ ap (λ z. catch.lexeme ∷ z) (split.split ∙ ap (λ z. split.front ++ z) (handler.split ∙ ap (λ z. handler.lexeme ∷ z)
-          (start.split ∙ ap (λ z. start.lexeme ∷ z) (to2.split ∙ ap (λ z. to2.lexeme ∷ z) last.split))))))))
+      word.split ∙ ap (λ z. word.lexeme ∷ z) (from.split ∙ ap (λ z. from.lexeme ∷ z) (to1.split ∙ ap (λ z. to1.lexeme ∷ z) (to.split ∙ ap (λ z. to.lexeme ∷ z)
+      (catch.split ∙ ap (λ z. catch.lexeme ∷ z) (split.split ∙ ap (λ z. split.front ++ z) (handler.split ∙ ap (λ z. handler.lexeme ∷ z)
+      (start.split ∙ ap (λ z. start.lexeme ∷ z) (to2.split ∙ ap (λ z. to2.lexeme ∷ z) last.split))))))))
       in
       record {
         item = record { from = name_at from.lexeme; to = name_at to.lexeme; catches = a.type; handler = name_at start.lexeme; end = name_at last.lexeme };
@@ -230,7 +224,7 @@ body_again s fair literals is_entry lexemes written b is genuine names small ls 
     let marks = marks_from p 0 b.code in
     let before : AreBefore (length b.code) labels = λ name to c. omega (arith, labels_before 0 written.lines name to c, size) in
     let reached : (to : ℕ) → is_named b to ≡ true → IsReached p marks (length b.code) to =
-        λ to named high. marks_have p b.code 0 to (omega arith) (omega (arith, high)) (passing_has (is_named b) (length b.code + 1) 0 to (omega arith) (omega (arith, high)) named)
+    λ to named high. marks_have p b.code 0 to (omega arith) (omega (arith, high)) (passing_has (is_named b) (length b.code + 1) 0 to (omega arith) (omega (arith, high)) named)
     in
     let in_code = each_item (IsReached p marks (length b.code)) (λ op. targets_of (operand_of op)) b.code (λ to has. reached to (or_left _ _ has)) in
     let in_clauses = each_item (IsReached p marks (length b.code)) ends_of b.clauses (λ to has. reached to (or_right _ _ has)) in

@@ -1,186 +1,32 @@
 -- A call of a method that a text gives isn't spelled as a call of the library.
-use Rattle.std.proofs.Common.{◌≡◌, ℕ, ◌==◌, ◌&&◌, not, Bool, true, false, if◌then◌else◌, List, [], ◌∷◌, ◌++◌, map, refl, sym, ap, ◌∙◌, subst, codes, Contains, bytes_eq, flat_map}
+use Rattle.std.proofs.Common.{◌≡◌, ℕ, Bool, true, false, List, [], ◌∷◌, ◌++◌, refl, sym, ap, ◌∙◌, subst}
 use Rattle.std.specs.List.{AllByRecursion, list_all}
 use Rattle.std.proofs.lemmas.Bool.{true≢false, and_parts}
-use Rattle.il_text.specs.declared.token.TokenKind.{TokenKind}
-use Rattle.il_text.specs.declared.token.TokenKind.TheVariants as token
 use Rattle.il_model.specs.declared.op.Op.{Op}
 use Rattle.il_model.specs.declared.form.Form.{Form}
 use Rattle.il_model.specs.declared.member.MRef.{MRef}
-use Rattle.il_model.specs.declared.written.WrittenType.{WrittenType}
-use Rattle.il_model.specs.declared.written.WrittenType.TheVariants as w
 use Rattle.il_model.specs.declared.written.WrittenMethodRef.{WrittenMethodRef}
 use Rattle.il_model.specs.declared.written.WrittenOperand.{WrittenOperand}
 use Rattle.il_model.specs.declared.written.WrittenOperand.TheVariants as operand
 use Rattle.il_model.specs.declared.written.WrittenInstr.{WrittenInstr}
-use Rattle.il_model.specs.Lexemes.{Lexeme, Is, IsName, name_at, is_among}
-use Rattle.il_model.specs.Words.{type_words, type_keywords}
-use Rattle.il_model.specs.Forms.{OperandKind, no_operand, type_operand, called_method, FormWord, word, library_call, no_text, word_of, operand_kind}
+use Rattle.il_model.specs.Lexemes.{Lexeme}
+use Rattle.il_model.specs.Forms.{OperandKind, no_operand, called_method, FormWord, word, library_call, no_text, word_of, operand_kind}
 use Rattle.il_model.specs.Ops.{Operand, method, form_of, operand_of}
-use Rattle.il_model.specs.Spellings.{plain_name, short_words, Shortened, shortened}
-use Rattle.il_model.specs.Types.{IsType, keyword, variable, named, applied, vector, AreTypes, last_type, next_type}
+use Rattle.il_model.specs.Spellings.{plain_name, Shortened, shortened}
 use Rattle.il_model.specs.Members.{IsMethodRef}
 use Rattle.il_model.specs.Instructions.{plain_words, IsInside, nothing_inside, type_inside, IsLibraryCall, library_words, IsOperand, called, IsInstr, long, library, short, short_whole}
 use Rattle.il_model.specs.Names.{Scope, Each, end, both}
 use Rattle.il_model.specs.LookUp.{NamesMethodRef, NamesOperand, names_method, NamesInstr}
 use Rattle.il_model.specs.Canonical.{Word}
-use Rattle.il_print.proofs.Keys.{Key, key_of}
-use Rattle.il_print.proofs.AgainScopes.{IsFair, AreQuoted, none_quoted}
+use Rattle.il_print.proofs.AgainScopes.{IsFair}
 use Rattle.il_print.proofs.AgainMembers.{AreGenuine, genuine_rest}
 use Rattle.il_print.proofs.AgainForms.{is_no_variable, FormWritten, by_word, by_call, never, form_written}
 use Rattle.il_print.proofs.AgainOps.{IsOwnCall}
 use Rattle.il_print.proofs.AgainInstrs.{all_contained}
-use Rattle.il_print.proofs.AgainAlike.{is_no_mark, IsAlike, alike_same, alike_object, alike_string, alike_variable}
-use Rattle.il_print.proofs.AgainTokens.{not_quoted, AreAlike}
+use Rattle.il_print.proofs.AgainAlike.{alike_same, alike_object, alike_string, alike_variable}
+use Rattle.il_print.proofs.AgainTokens.{AreAlike}
 use Rattle.il_print.proofs.AgainRefs.{ref_alike}
-
--- ---- lexemes that are alike
-
-abbrev pub IsLike : Lexeme → Lexeme → Type 0
-IsLike l k = IsAlike l (key_of k)
-
-record LikeFirst (ls : List Lexeme) (k : Lexeme) (ks : List Lexeme) : Type 0 where
-  first : Lexeme
-  rest : List Lexeme
-  split : ls ≡ first ∷ rest
-  is : IsLike first k
-  are : Each IsLike rest ks
-
-like_first : (ls : List Lexeme) (k : Lexeme) (ks : List Lexeme) → Each IsLike ls (k ∷ ks) → LikeFirst ls k ks
-like_first ls k ks (both l x us vs is are) = record { first = l; rest = us; split = refl; is = is; are = are }
-
-like_none : (ls : List Lexeme) → Each IsLike ls [] → ls ≡ []
-like_none ls end = refl
-
-record LikeSplit (ls : List Lexeme) (xs ys : List Lexeme) : Type 0 where
-  front : List Lexeme
-  back : List Lexeme
-  split : ls ≡ front ++ back
-  first : Each IsLike front xs
-  second : Each IsLike back ys
-
-like_split : (ls xs ys : List Lexeme) → Each IsLike ls (xs ++ ys) → LikeSplit ls xs ys
-like_split ls [] ys are = record { front = []; back = ls; split = refl; first = end; second = are }
-like_split ls (x ∷ xs) ys are =
-    let f = like_first ls x (xs ++ ys) are in
-    let r = like_split f.rest xs ys f.are in
-    record { front = f.first ∷ r.front; back = r.back; split = f.split ∙ ap (λ z. f.first ∷ z) r.split; first = both f.first x r.front xs f.is r.first; second = r.second }
-
-like_keys : (ls ks : List Lexeme) → AreAlike ls (map key_of ks) → Each IsLike ls ks
-like_keys ls [] are = subst (λ z. Each IsLike z []) (sym (no_keys ls are)) end where
-  no_keys : (ls : List Lexeme) → AreAlike ls [] → ls ≡ []
-  no_keys ls end = refl
-like_keys ls (k ∷ ks) are = by_first ls (key_of k) (map key_of ks) are refl (λ rest e. like_keys rest ks e) where
-  by_first : (ls : List Lexeme) (key : Key) (keys : List Key) → AreAlike ls (key ∷ keys) → key_of k ≡ key → ((rest : List Lexeme) → AreAlike rest keys → Each IsLike rest ks) →
-      Each IsLike ls (k ∷ ks)
-  by_first ls key keys (both l x us vs is tail) same later = both l k us ks (subst (IsAlike l) (sym same) is) (later us tail)
-
--- ---- a type is spelled again
-
-mark_back : (m : Word) (l k : Lexeme) → bytes_eq m (codes "object") ≡ false → bytes_eq m (codes "string") ≡ false → is_no_variable m ≡ true → Is m k → IsLike l k → Is m l
-mark_back m l k a b c is (alike_same e f) = e ∙ is
-mark_back m l k a b c is (alike_object e f g) = absurd (true≢false (ap (λ x. bytes_eq x (codes "object")) (sym g ∙ is) ∙ a))
-mark_back m l k a b c is (alike_string e f g) = absurd (true≢false (ap (λ x. bytes_eq x (codes "string")) (sym g ∙ is) ∙ b))
-mark_back m l k a b c is (alike_variable rest e f g) = absurd (true≢false (sym c ∙ sym (ap is_no_variable (sym g ∙ is))))
-
-is_word_kind : TokenKind → Bool
-is_word_kind token.Word = true
-is_word_kind token.Variable = false
-is_word_kind token.Number = false
-is_word_kind token.Text = false
-is_word_kind token.Mark = false
-
--- a name of a class stays one
-name_back : (words : List Word) (l k : Lexeme) → IsName (type_keywords ++ words) k → IsLike l k → IsName (type_keywords ++ words) l
-unfolding is_word_kind
-name_back words l k name (alike_same e f) = record { word = f (ap is_no_mark name.word) ∙ name.word; free = ap (is_among (type_keywords ++ words)) e ∙ name.free }
-name_back words l k name (alike_object e f g) = absurd (not_quoted (type_keywords ++ words) k.bytes (codes "object") name.free refl g)
-name_back words l k name (alike_string e f g) = absurd (not_quoted (type_keywords ++ words) k.bytes (codes "string") name.free refl g)
-name_back words l k name (alike_variable rest e f g) = absurd (true≢false (ap is_word_kind (sym name.word ∙ f)))
-
--- there is a type that these lexemes spell
-record SpellsType (words : List Word) (ls : List Lexeme) : Type 0 where
-  type : WrittenType
-  is : IsType words ls type
-
-record SpellsTypes (mark : Word) (ls : List Lexeme) : Type 0 where
-  types : List WrittenType
-  are : AreTypes mark ls types
-
-long_name_spells : (words : List Word) (l : Lexeme) (name : Word) → AreQuoted words → l.kind ≡ token.Word → l.bytes ≡ name → is_among (type_keywords ++ words) name ≡ false →
-    SpellsType words (l ∷ [])
-long_name_spells words l name quoted kind is free = record {
-  type = w.Named (name_at l) [];
-  is = named words l (w.Named (name_at l) []) (record { word = kind; free = ap (is_among (type_keywords ++ words)) is ∙ free }) refl;
-}
-
-keyword_back : (words : List Word) (l k : Lexeme) (t : WrittenType) → AreQuoted words → Contains type_words (k.bytes, t) → IsLike l k → SpellsType words (l ∷ [])
-keyword_back words l k t quoted among (alike_same e f) = record { type = t; is = keyword words l t (subst (λ b. Contains type_words (b, t)) (sym e) among) }
-keyword_back words l k t quoted among (alike_object e f g) =
-    long_name_spells words l (codes "System.Object") quoted e f (none_quoted (type_keywords ++ words) (codes "System.Object") quoted refl)
-keyword_back words l k t quoted among (alike_string e f g) =
-    long_name_spells words l (codes "System.String") quoted e f (none_quoted (type_keywords ++ words) (codes "System.String") quoted refl)
-keyword_back words l k t quoted among (alike_variable rest e f g) = record { type = w.Variable (name_at l); is = variable words l (w.Variable (name_at l)) e refl }
-
-variable_back : (words : List Word) (l k : Lexeme) → AreQuoted words → k.kind ≡ token.Variable → IsLike l k → SpellsType words (l ∷ [])
-variable_back words l k quoted is (alike_same e f) = record { type = w.Variable (name_at l); is = variable words l (w.Variable (name_at l)) (f (ap is_no_mark is) ∙ is) refl }
-variable_back words l k quoted is (alike_object e f g) =
-    long_name_spells words l (codes "System.Object") quoted e f (none_quoted (type_keywords ++ words) (codes "System.Object") quoted refl)
-variable_back words l k quoted is (alike_string e f g) =
-    long_name_spells words l (codes "System.String") quoted e f (none_quoted (type_keywords ++ words) (codes "System.String") quoted refl)
-variable_back words l k quoted is (alike_variable rest e f g) = record { type = w.Variable (name_at l); is = variable words l (w.Variable (name_at l)) e refl }
-
-mutual
-  type_back : (words : List Word) (ks : List Lexeme) (t : WrittenType) → IsType words ks t → AreQuoted words → (ls : List Lexeme) → Each IsLike ls ks → SpellsType words ls
-  type_back words ks t (keyword q k u among) quoted ls are =
-      let f = like_first ls k [] are in
-      subst (SpellsType words) (sym (f.split ∙ ap (λ z. f.first ∷ z) (like_none f.rest f.are))) (keyword_back words f.first k t quoted among f.is)
-  type_back words ks t (variable q k u is e) quoted ls are =
-      let f = like_first ls k [] are in
-      subst (SpellsType words) (sym (f.split ∙ ap (λ z. f.first ∷ z) (like_none f.rest f.are))) (variable_back words f.first k quoted is f.is)
-  type_back words ks t (named q k u name e) quoted ls are =
-      let f = like_first ls k [] are in
-      subst (SpellsType words) (sym (f.split ∙ ap (λ z. f.first ∷ z) (like_none f.rest f.are)))
-      (record { type = w.Named (name_at f.first) []; is = named words f.first (w.Named (name_at f.first) []) (name_back words f.first k name f.is) refl })
-  type_back words ks t (applied q ws inner k left right u args split name opens types closes e) quoted ls are =
-      let f = like_first ls k (left ∷ inner ++ right ∷ []) (subst (Each IsLike ls) split are) in
-      let o = like_first f.rest left (inner ++ right ∷ []) f.are in
-      let s = like_split o.rest inner (right ∷ []) o.are in
-      let c = like_first s.back right [] s.second in
-      let a = types_back (codes ",") refl refl refl inner args types s.front s.first in
-      let type = w.Named (name_at f.first) a.types in
-      let spelled : ls ≡ f.first ∷ o.first ∷ s.front ++ c.first ∷ [] =
-          f.split ∙ ap (λ z. f.first ∷ z) (o.split ∙ ap (λ z. o.first ∷ z) (s.split ∙ ap (λ z. s.front ++ z) (c.split ∙ ap (λ z. c.first ∷ z) (like_none c.rest c.are))))
-      in
-      record {
-        type = type;
-        is = applied words ls s.front f.first o.first c.first type a.types spelled (name_back words f.first k name f.is)
-            (mark_back (codes "<") o.first left refl refl refl opens o.is) a.are (mark_back (codes ">") c.first right refl refl refl closes c.is) refl;
-      }
-  type_back words ks t (vector q ws front k u element split is same e) quoted ls are =
-      let s = like_split ls front (k ∷ []) (subst (Each IsLike ls) split are) in
-      let c = like_first s.back k [] s.second in
-      let a = type_back words front element is quoted s.front s.first in
-      record {
-        type = w.Vector a.type;
-        is = vector words ls s.front c.first (w.Vector a.type) a.type (s.split ∙ ap (λ z. s.front ++ z) (c.split ∙ ap (λ z. c.first ∷ z) (like_none c.rest c.are))) a.is
-            (mark_back (codes "[]") c.first k refl refl refl same c.is) refl;
-      }
-
-  types_back : (mark : Word) → bytes_eq mark (codes "object") ≡ false → bytes_eq mark (codes "string") ≡ false → is_no_variable mark ≡ true → (ks : List Lexeme) (ts : List WrittenType) →
-      AreTypes mark ks ts → (ls : List Lexeme) → Each IsLike ls ks → SpellsTypes mark ls
-  types_back mark a b c ks ts (last_type m ws t is) ls are =
-      let r = type_back [] ks t is refl ls are in
-      record { types = r.type ∷ []; are = last_type mark ls r.type r.is }
-  types_back mark a b c ks ts (next_type m ws front back k t us split is same types) ls are =
-      let s = like_split ls front (k ∷ back) (subst (Each IsLike ls) split are) in
-      let f = like_first s.back k back s.second in
-      let r = type_back [] front t is refl s.front s.first in
-      let more = types_back mark a b c back us types f.rest f.are in
-      record {
-        types = r.type ∷ more.types;
-        are = next_type mark ls s.front f.rest f.first r.type more.types (s.split ∙ ap (λ z. s.front ++ z) f.split) r.is (mark_back mark f.first k a b c same f.is) more.are;
-      }
+use Rattle.il_print.proofs.AgainLikes.{IsLike, like_none, like_split, like_keys, type_back}
 
 -- ---- a call of the library is spelled again
 
@@ -189,11 +35,11 @@ plain_back ls ks none end = refl
 plain_back ls ks none (both l k us vs is are) =
     let parts = and_parts (is_no_variable (plain_name k.bytes)) (list_all is_no_variable (plain_words vs)) none in
     ap (λ x. x ∷ plain_words us) (one_plain l k is parts.0) ∙ ap (λ z. plain_name k.bytes ∷ z) (plain_back us vs parts.1 are) where
-  one_plain : (l k : Lexeme) → IsLike l k → is_no_variable (plain_name k.bytes) ≡ true → plain_name l.bytes ≡ plain_name k.bytes
-  one_plain l k (alike_same e f) none = ap plain_name e
-  one_plain l k (alike_object e f g) none = ap plain_name f ∙ sym (ap plain_name g)
-  one_plain l k (alike_string e f g) none = ap plain_name f ∙ sym (ap plain_name g)
-  one_plain l k (alike_variable rest e f g) none = absurd (true≢false (sym none ∙ ap (λ b. is_no_variable (plain_name b)) g))
+      one_plain : (l k : Lexeme) → IsLike l k → is_no_variable (plain_name k.bytes) ≡ true → plain_name l.bytes ≡ plain_name k.bytes
+      one_plain l k (alike_same e f) none = ap plain_name e
+      one_plain l k (alike_object e f g) none = ap plain_name f ∙ sym (ap plain_name g)
+      one_plain l k (alike_string e f g) none = ap plain_name f ∙ sym (ap plain_name g)
+      one_plain l k (alike_variable rest e f g) none = absurd (true≢false (sym none ∙ ap (λ b. is_no_variable (plain_name b)) g))
 
 words_before : FormWord → List Word → List Word
 words_before (word x) d = d
@@ -214,11 +60,10 @@ no_variables : (f : Form) (before behind : List Word) → word_of f ≡ library_
     (list_all is_no_variable before ≡ true) × (list_all is_no_variable behind ≡ true)
 unfolding words_before words_behind is_call
 no_variables f before behind e (by_word x is) = absurd (true≢false (ap is_call (sym e ∙ is)))
-no_variables f before behind e (by_call first last is a b c d inside) =
-    (
-      ap (list_all is_no_variable) (ap (λ fw. words_before fw []) (sym e ∙ is)) ∙ c,
-      ap (list_all is_no_variable) (ap (λ fw. words_behind fw []) (sym e ∙ is)) ∙ d,
-    )
+no_variables f before behind e (by_call first last is a b c d inside) = (
+  ap (list_all is_no_variable) (ap (λ fw. words_before fw []) (sym e ∙ is)) ∙ c,
+  ap (list_all is_no_variable) (ap (λ fw. words_behind fw []) (sym e ∙ is)) ∙ d,
+)
 no_variables f before behind e (never is) = absurd (true≢false (ap is_call (sym e ∙ is)))
 
 record SpellsInside (kind : OperandKind) (ls : List Lexeme) : Type 0 where
@@ -286,9 +131,73 @@ not_library ls f o (library_words ws front inner back g u before behind split is
 
 shortened_hold : AllByRecursion (λ (row : Shortened). is_method row.operand ≡ false) shortened
 unfolding is_method
-shortened_hold =
-    (refl, (refl, (refl, (refl, (refl, (refl, (refl, (refl, (refl, (refl, (refl, (refl, (refl, (refl, (refl, (refl, (refl, (refl, (refl, (refl, (refl, (refl,
-    (refl, (refl, (refl, (refl, (refl, (refl, (refl, (refl, (refl, (refl, tt))))))))))))))))))))))))))))))))
+shortened_hold = (
+  refl,
+  (
+    refl,
+    (
+      refl,
+      (
+        refl,
+        (
+          refl,
+          (
+            refl,
+            (
+              refl,
+              (
+                refl,
+                (
+                  refl,
+                  (
+                    refl,
+                    (
+                      refl,
+                      (
+                        refl,
+                        (
+                          refl,
+                          (
+                            refl,
+                            (
+                              refl,
+                              (
+                                refl,
+                                (
+                                  refl,
+                                  (
+                                    refl,
+                                    (
+                                      refl,
+                                      (
+                                        refl,
+                                        (
+                                          refl,
+                                          (
+                                            refl,
+                                            (refl, (refl, (refl, (refl, (refl, (refl, (refl, (refl, (refl, (refl, tt)))))))))),
+                                          ),
+                                        ),
+                                      ),
+                                    ),
+                                  ),
+                                ),
+                              ),
+                            ),
+                          ),
+                        ),
+                      ),
+                    ),
+                  ),
+                ),
+              ),
+            ),
+          ),
+        ),
+      ),
+    ),
+  ),
+)
 
 call_spelled : (ls : List Lexeme) (i : WrittenInstr) → IsInstr ls i → AreGenuine ls → operand_kind i.form ≡ called_method → (written : WrittenMethodRef) →
     i.operand ≡ operand.Method written → CallSpelled written

@@ -1,136 +1,30 @@
 -- Classes of a canonical text.
-use Rattle.std.proofs.Common.{◌≡◌, ℕ, zero, suc, ◌+◌, ◌<◌, ◌≤◌, ◌^◌, ◌==◌, Bool, true, false, if◌then◌else◌, List, [], ◌∷◌, ◌++◌, length, map, flat_map, Option, Some, None, refl, sym, ap, ◌∙◌, subst, codes, decimal, arith, append_assoc, append-nil, bytes_eq, slice_get, Contains}
+use Rattle.std.proofs.Common.{◌≡◌, ℕ, suc, ◌+◌, ◌<◌, ◌≤◌, ◌^◌, ◌==◌, false, List, [], ◌∷◌, ◌++◌, length, map, flat_map, Some, refl, sym, ap, ◌∙◌, subst, codes, arith, append_assoc, bytes_eq, slice_get}
 use Rattle.std.specs.List.{AllByRecursion, IsDistinct}
-use Rattle.std.proofs.lemmas.Bool.{true≢false}
-use Rattle.type_tree.specs.declared.tree.TExpr.{TExpr}
-use Rattle.il_model.specs.declared.class.ClassKind.{ClassKind}
-use Rattle.il_model.specs.declared.class.ClassKind.TheVariants as kind
 use Rattle.il_model.specs.declared.class.ClassDef.{ClassDef}
 use Rattle.il_model.specs.declared.class.FieldDef.{FieldDef}
 use Rattle.il_model.specs.declared.method.MethodDef.{MethodDef}
 use Rattle.il_model.specs.declared.program.Program.{Program}
-use Rattle.il_model.specs.declared.written.WrittenType.{WrittenType}
-use Rattle.il_model.specs.declared.written.WrittenVar.{WrittenVar}
 use Rattle.il_model.specs.declared.written.WrittenField.{WrittenField}
 use Rattle.il_model.specs.declared.written.WrittenMethod.{WrittenMethod}
 use Rattle.il_model.specs.declared.written.WrittenMember.{WrittenMember}
 use Rattle.il_model.specs.declared.written.WrittenMember.TheVariants as member
 use Rattle.il_model.specs.declared.written.WrittenClass.{WrittenClass}
-use Rattle.il_model.specs.Lexemes.{Lexeme, Is, IsName, name_at, Many, none, more, is_among}
-use Rattle.il_model.specs.Words.{kind_words, quoted_words}
+use Rattle.il_model.specs.Lexemes.{Lexeme, name_at, Many, none, more, is_among}
+use Rattle.il_model.specs.Words.{quoted_words}
 use Rattle.il_model.specs.Bounds.{fields_of, methods_of, IsSmallMethod}
-use Rattle.il_model.specs.Classes.{IsField, IsMethod, IsMember, field_member, method_member, IsKind, plain as plain_kind, worded, IsBase, no_base, base_of_plain, base_of_abstract, AreInterfaces, no_interfaces, interfaces, IsClass, class}
-use Rattle.il_model.specs.Names.{Scope, Each, end, both, NamesType, NamesTypes, no_types, NamesVars}
-use Rattle.il_model.specs.LookUp.{Known, scope_of, names_of_vars, NamesMethod, NamesField, NamesBase, object_of_plain, object_of_abstract, none_of_struct, none_of_interface, written_base, numbers_from, NamesClass}
-use Rattle.il_model.specs.Library.{plain}
-use Rattle.il_model.specs.Canonical.{Word, kind_text, type_text}
-use Rattle.il_print.proofs.Keys.{Key, key_of, quoted, all_quoted, name_key, keys_between, type_keys, vars_keys, field_keys, method_keys, numbered_keys, methods_keys, base_keys, interfaces_keys, class_head_keys, class_keys}
-use Rattle.il_print.proofs.AgainKeys.{keys_first, keys_split, keys_one, keys_none, is_quoted, is_name}
-use Rattle.il_print.proofs.AgainScopes.{ArePlain, IsFair}
-use Rattle.il_print.proofs.AgainTypes.{type_again}
-use Rattle.il_print.proofs.AgainLists.{ItemAgain, Reads, ManyAgain, many_again, all_read}
-use Rattle.il_print.proofs.AgainParams.{types_again, vars_again}
+use Rattle.il_model.specs.Classes.{IsField, IsMethod, IsMember, field_member, method_member, IsBase, IsClass, class}
+use Rattle.il_model.specs.Names.{Scope, Each, end, both, NamesTypes, NamesVars}
+use Rattle.il_model.specs.LookUp.{Known, scope_of, NamesMethod, NamesField, NamesBase, numbers_from, NamesClass}
+use Rattle.il_model.specs.Canonical.{kind_text}
+use Rattle.il_print.proofs.Keys.{Key, key_of, quoted, all_quoted, name_key, vars_keys, field_keys, method_keys, numbered_keys, methods_keys, base_keys, interfaces_keys, class_head_keys, class_keys}
+use Rattle.il_print.proofs.AgainKeys.{keys_first, keys_split, keys_one, is_quoted, is_name}
+use Rattle.il_print.proofs.AgainLists.{Reads, many_again, all_read}
+use Rattle.il_print.proofs.AgainParams.{vars_again}
 use Rattle.il_print.proofs.AgainMembers.{AreGenuine, genuine_front, genuine_back, genuine_rest}
-use Rattle.il_print.proofs.AgainInstrs.{all_contained}
 use Rattle.il_print.proofs.AgainBodies.{each_length}
-use Rattle.il_print.proofs.AgainBases.{object_text, object_is}
+use Rattle.il_print.proofs.AgainHeads.{is_delegate, kind_again, no_delegate, base_again, interfaces_again}
 use Rattle.il_print.proofs.AgainMethods.{field_def_again, IsFairKnown, fair_scope, var_names, IsSpelledMethod, StandsFor, method_def_again}
-
--- ---- what a class is
-
-is_delegate : ClassKind → Bool
-is_delegate kind.Plain = false
-is_delegate kind.Abstract = false
-is_delegate kind.Interface = false
-is_delegate kind.Struct = false
-is_delegate kind.Delegate = true
-
-kind_again : (k : ClassKind) (ls : List Lexeme) → is_delegate k ≡ false → map key_of ls ≡ all_quoted (kind_text k) → IsKind ls k
-unfolding is_delegate
-kind_again kind.Plain ls can e = subst (λ z. IsKind z kind.Plain) (sym (keys_none ls e)) plain_kind
-kind_again kind.Abstract ls can e =
-    let one = keys_one ls (quoted (codes "abstract")) e in
-    subst (λ z. IsKind z kind.Abstract) (sym one.split) (worded one.lexeme kind.Abstract (subst (λ b. Contains kind_words (b, kind.Abstract)) (sym (ap (λ k. k.bytes) one.is)) (0, omega arith, refl)))
-kind_again kind.Interface ls can e =
-    let one = keys_one ls (quoted (codes "interface")) e in
-    subst (λ z. IsKind z kind.Interface) (sym one.split) (worded one.lexeme kind.Interface (subst (λ b. Contains kind_words (b, kind.Interface)) (sym (ap (λ k. k.bytes) one.is)) (1, omega arith, refl)))
-kind_again kind.Struct ls can e =
-    let one = keys_one ls (quoted (codes "struct")) e in
-    subst (λ z. IsKind z kind.Struct) (sym one.split) (worded one.lexeme kind.Struct (subst (λ b. Contains kind_words (b, kind.Struct)) (sym (ap (λ k. k.bytes) one.is)) (2, omega arith, refl)))
-kind_again kind.Delegate ls can e = absurd (true≢false can)
-
-no_delegate : (ls : List Lexeme) (k : ClassKind) → IsKind ls k → is_delegate k ≡ false
-unfolding is_delegate
-no_delegate ls k plain_kind = refl
-no_delegate ls k (worded l u among) = all_contained (λ (row : List ℕ × ClassKind). is_delegate row.1 ≡ false) kind_words (l.bytes, k) (refl, (refl, (refl, tt))) among
-
--- ---- the base and the interfaces
-
-record BaseAgain (s : Scope) (k : ClassKind) (ls : List Lexeme) (o : Option TExpr) : Type 0 where
-  base : Option WrittenType
-  is : IsBase k ls base
-  names : NamesBase s k base o
-
--- no base is printed
-left_out : (s : Scope) (k : ClassKind) (ls : List Lexeme) (o : Option TExpr) → NamesBase s k None o → map key_of ls ≡ [] → BaseAgain s k ls o
-left_out s k ls o names e = record { base = None; is = subst (λ z. IsBase k z None) (sym (keys_none ls e)) (no_base k); names = names }
-
-no_object : (s : Scope) → ArePlain s.names → (ls : List Lexeme) → map key_of ls ≡ base_keys s.names (Some (plain 0)) → map key_of ls ≡ []
-no_object s names ls e = e ∙ ap (λ b. if b then [] else quoted (codes "extends") ∷ type_keys s.names (plain 0)) (object_text s names)
-
-by_choice : (s : Scope) (k : ClassKind) (t : TExpr) (b : Bool) → bytes_eq (type_text s.names t) (codes "object") ≡ b → (ls : List Lexeme) →
-    map key_of ls ≡ (if b then [] else quoted (codes "extends") ∷ type_keys s.names t) →
-    (b ≡ true → map key_of ls ≡ [] → BaseAgain s k ls (Some t)) →
-    ((l : Lexeme) (rest : List Lexeme) → ls ≡ l ∷ rest → Is (codes "extends") l → map key_of rest ≡ type_keys s.names t → BaseAgain s k ls (Some t)) → BaseAgain s k ls (Some t)
-by_choice s k t true is ls e out written = out refl e
-by_choice s k t false is ls e out written =
-    let l = keys_first ls (quoted (codes "extends")) (type_keys s.names t) e in
-    written l.lexeme l.rest l.split (is_quoted (codes "extends") l.lexeme l.is) l.are
-
-base_again : (s : Scope) → IsFair s → (k : ClassKind) (lexemes : List Lexeme) (written : Option WrittenType) (o : Option TExpr) → IsBase k lexemes written →
-    NamesBase s k written o → (ls : List Lexeme) → map key_of ls ≡ base_keys s.names o → BaseAgain s k ls o
-base_again s fair k lexemes written o (no_base u) object_of_plain ls e = left_out s k ls o object_of_plain (no_object s fair.plain ls e)
-base_again s fair k lexemes written o (no_base u) object_of_abstract ls e = left_out s k ls o object_of_abstract (no_object s fair.plain ls e)
-base_again s fair k lexemes written o (no_base u) none_of_struct ls e = left_out s k ls o none_of_struct e
-base_again s fair k lexemes written o (no_base u) none_of_interface ls e = left_out s k ls o none_of_interface e
-base_again s fair k lexemes written o (base_of_plain l ws x a b) (written_base v y t named) ls e =
-    by_choice s kind.Plain t (bytes_eq (type_text s.names t) (codes "object")) refl ls e
-    (λ hit none. left_out s kind.Plain ls (Some t) (subst (λ z. NamesBase s kind.Plain None (Some z)) (sym (object_is s fair.plain y t named hit)) object_of_plain) none)
-    (λ word rest split is keys.
-    let r = type_again s fair y t named [] refl rest keys in
-    record {
-      base = Some r.type;
-      is = subst (λ z. IsBase kind.Plain z (Some r.type)) (sym split) (base_of_plain word rest r.type is r.is);
-      names = written_base kind.Plain r.type t r.names;
-    })
-base_again s fair k lexemes written o (base_of_abstract l ws x a b) (written_base v y t named) ls e =
-    by_choice s kind.Abstract t (bytes_eq (type_text s.names t) (codes "object")) refl ls e
-    (λ hit none. left_out s kind.Abstract ls (Some t) (subst (λ z. NamesBase s kind.Abstract None (Some z)) (sym (object_is s fair.plain y t named hit)) object_of_abstract) none)
-    (λ word rest split is keys.
-    let r = type_again s fair y t named [] refl rest keys in
-    record {
-      base = Some r.type;
-      is = subst (λ z. IsBase kind.Abstract z (Some r.type)) (sym split) (base_of_abstract word rest r.type is r.is);
-      names = written_base kind.Abstract r.type t r.names;
-    })
-
-record InterfacesAgain (s : Scope) (ls : List Lexeme) (ts : List TExpr) : Type 0 where
-  types : List WrittenType
-  are : AreInterfaces ls types
-  names : NamesTypes s types ts
-
-interfaces_again : (s : Scope) → IsFair s → (written : List WrittenType) (ts : List TExpr) → NamesTypes s written ts → (ls : List Lexeme) →
-    map key_of ls ≡ interfaces_keys s.names ts → InterfacesAgain s ls ts
-interfaces_again s fair written [] named ls e =
-    record { types = []; are = subst (λ z. AreInterfaces z []) (sym (keys_none ls e)) no_interfaces; names = no_types s }
-interfaces_again s fair written (t ∷ ts) named ls e =
-    let word = keys_first ls (quoted (codes "implements")) (keys_between (codes ",") (map (type_keys s.names) (t ∷ ts))) e in
-    let r = types_again s fair (codes ",") written (t ∷ ts) named (omega arith) word.rest word.are in
-    record {
-      types = r.first ∷ r.rest;
-      are = subst (λ z. AreInterfaces z (r.first ∷ r.rest)) (sym word.split) (interfaces word.lexeme word.rest r.first r.rest (is_quoted (codes "implements") word.lexeme word.is) r.are);
-      names = r.names;
-    }
 
 -- ---- members: first the fields, then the methods
 
@@ -185,13 +79,12 @@ numbered_read : (p : Program) (known : Known) → IsFairKnown known → (owner o
     Each (NamesMethod known owner of_class) ws ms → AllByRecursion IsSpelledMethod ws → AllByRecursion IsSmallMethod ws →
     AllByRecursion (Reads IsMethod (StandsAt p known owner of_class) (keys_at p known)) (numbered first ms)
 numbered_read p known fair owner of_class low first ws ms end spelled small = tt
-numbered_read p known fair owner of_class low first ws ms (both w m us vs is are) spelled small =
-    (
-      λ ls e.
-        let a = method_def_again known fair owner of_class low (first == p.main) w m spelled.0 is small.0 ls e in
-        record { item = a.item; is = a.is; names = a.names },
-      numbered_read p known fair owner of_class low (first + 1) us vs are spelled.1 small.1,
-    )
+numbered_read p known fair owner of_class low first ws ms (both w m us vs is are) spelled small = (
+  λ ls e.
+      let a = method_def_again known fair owner of_class low (first == p.main) w m spelled.0 is small.0 ls e in
+      record { item = a.item; is = a.is; names = a.names },
+  numbered_read p known fair owner of_class low (first + 1) us vs are spelled.1 small.1,
+)
 
 numbers_same : {A B : Type 0} (first : ℕ) (xs : List A) (ys : List B) → length xs ≡ length ys → numbers_from first xs ≡ numbers_from first ys
 numbers_same first [] [] e = refl
@@ -213,10 +106,10 @@ members_spelled : (ls : List Lexeme) (ms : List WrittenMember) → Many IsMember
 members_spelled ls ms none genuine = tt
 members_spelled ls ms (more ws front back x xs split is are) genuine =
     by_member front x xs is (genuine_front front back (subst AreGenuine split genuine)) (members_spelled back xs are (genuine_back front back (subst AreGenuine split genuine))) where
-  by_member : (front : List Lexeme) (x : WrittenMember) (xs : List WrittenMember) → IsMember front x → AreGenuine front → AllByRecursion IsSpelledMethod (methods_of xs) →
-      AllByRecursion IsSpelledMethod (methods_of (x ∷ xs))
-  by_member front x xs (field_member ws f is) genuine rest = rest
-  by_member front x xs (method_member ws m is) genuine rest = (record { lexemes = ws; is = is; genuine = genuine }, rest)
+      by_member : (front : List Lexeme) (x : WrittenMember) (xs : List WrittenMember) → IsMember front x → AreGenuine front → AllByRecursion IsSpelledMethod (methods_of xs) →
+          AllByRecursion IsSpelledMethod (methods_of (x ∷ xs))
+      by_member front x xs (field_member ws f is) genuine rest = rest
+      by_member front x xs (method_member ws m is) genuine rest = (record { lexemes = ws; is = is; genuine = genuine }, rest)
 
 -- a class of a text
 record ClassParts (c : WrittenClass) : Type 0 where
@@ -229,7 +122,7 @@ record ClassParts (c : WrittenClass) : Type 0 where
 class_parts : (ls : List Lexeme) (c : WrittenClass) → IsClass ls c → AreGenuine ls → ClassParts c
 class_parts ls c (class ws kinds vars base implemented members word name left right k vs b is ms split x1 x2 x3 x4 x5 x6 x7 x8 x9) genuine =
     let own = genuine_rest left members (genuine_back (word ∷ kinds ++ name ∷ vars ++ base ++ implemented) (left ∷ members)
-        (genuine_front (word ∷ kinds ++ name ∷ vars ++ base ++ implemented ++ left ∷ members) (right ∷ []) (subst AreGenuine split genuine)))
+    (genuine_front (word ∷ kinds ++ name ∷ vars ++ base ++ implemented ++ left ∷ members) (right ∷ []) (subst AreGenuine split genuine)))
     in
     record { name_free = x3.free; can = no_delegate kinds k x2; base_lexemes = base; base = x5; methods = members_spelled members ms x8 own }
 
@@ -253,7 +146,7 @@ class_again p known fair same number first lexemes written c defs is genuine nam
     let s2 = keys_split s1.front (class_head_keys known.names c ++ quoted (codes "{") ∷ flat_map (field_keys known.names) c.fields) keys_of_methods s1.first in
     let s3 = keys_split s2.front (class_head_keys known.names c) (quoted (codes "{") ∷ flat_map (field_keys known.names) c.fields) s2.first in
     let s4 = keys_split s3.front (quoted (codes ".class") ∷ all_quoted (kind_text c.kind) ++ name_key c.name ∷ vars_keys known.names c.vars ++ base_keys known.names c.base)
-        (interfaces_keys known.names c.interfaces) s3.first
+    (interfaces_keys known.names c.interfaces) s3.first
     in
     let s5 = keys_split s4.front (quoted (codes ".class") ∷ all_quoted (kind_text c.kind) ++ name_key c.name ∷ vars_keys known.names c.vars) (base_keys known.names c.base) s4.first in
     let s6 = keys_split s5.front (quoted (codes ".class") ∷ all_quoted (kind_text c.kind)) (name_key c.name ∷ vars_keys known.names c.vars) s5.first in
@@ -264,34 +157,34 @@ class_again p known fair same number first lexemes written c defs is genuine nam
     let a_kind = kind_again c.kind word.rest (ap is_delegate named.kind ∙ parts.can) word.are in
     let a_vars = vars_again s fair_here written.vars c.vars named.vars name.rest name.are in
     let a_base = base_again s fair_here c.kind parts.base_lexemes written.base c.base (subst (λ k. IsBase k parts.base_lexemes written.base) (sym named.kind) parts.base)
-        (subst (λ k. NamesBase s k written.base c.base) (sym named.kind) named.base) s5.back s5.second
+    (subst (λ k. NamesBase s k written.base c.base) (sym named.kind) named.base) s5.back s5.second
     in
     let a_interfaces = interfaces_again s fair_here written.interfaces c.interfaces named.interfaces s4.back s4.second in
     let a_fields = many_again IsField (NamesField s) (field_keys known.names) c.fields
-        (all_read IsField (NamesField s) (field_keys known.names) (NamesField s) (field_def_again s fair_here) (fields_of written.members) c.fields named.fields) left.rest left.are
+    (all_read IsField (NamesField s) (field_keys known.names) (NamesField s) (field_def_again s fair_here) (fields_of written.members) c.fields named.fields) left.rest left.are
     in
     let keys_are : keys_of_methods ≡ flat_map (keys_at p known) (numbered first defs) =
-        ap (methods_keys p known.names) named.methods ∙ numbered_is (NamesMethod known number (length written.vars)) p known same first (methods_of written.members) defs methods at
+    ap (methods_keys p known.names) named.methods ∙ numbered_is (NamesMethod known number (length written.vars)) p known same first (methods_of written.members) defs methods at
     in
     let a_methods = many_again IsMethod (StandsAt p known number (length written.vars)) (keys_at p known) (numbered first defs)
-        (numbered_read p known fair number (length written.vars) low first (methods_of written.members) defs methods parts.methods small) s2.back (s2.second ∙ keys_are)
+    (numbered_read p known fair number (length written.vars) low first (methods_of written.members) defs methods parts.methods small) s2.back (s2.second ∙ keys_are)
     in
     let ms = map member.Field a_fields.items ++ map member.Method a_methods.items in
     let fs_are = fields_joined a_fields.items a_methods.items in
     let ms_are = methods_joined a_fields.items a_methods.items in
     let head : s3.front ≡ word.lexeme ∷ word.rest ++ name.lexeme ∷ name.rest ++ s5.back ++ s4.back =
-        s4.split ∙ ap (λ z. z ++ s4.back) (s5.split ∙ ap (λ z. z ++ s5.back) (s6.split ∙ ap (λ z. z ++ s6.back) word.split ∙ ap (λ z. word.lexeme ∷ word.rest ++ z) name.split))
+    s4.split ∙ ap (λ z. z ++ s4.back) (s5.split ∙ ap (λ z. z ++ s5.back) (s6.split ∙ ap (λ z. z ++ s6.back) word.split ∙ ap (λ z. word.lexeme ∷ word.rest ++ z) name.split))
     in
     let front : s1.front ≡ word.lexeme ∷ word.rest ++ name.lexeme ∷ name.rest ++ s5.back ++ s4.back ++ left.lexeme ∷ left.rest ++ s2.back =
-        s2.split ∙ ap (λ z. z ++ s2.back) (s3.split ∙ ap (λ z. z ++ s3.back) head ∙ ap (λ z. word.lexeme ∷ word.rest ++ name.lexeme ∷ name.rest ++ s5.back ++ s4.back ++ z) left.split)
+    s2.split ∙ ap (λ z. z ++ s2.back) (s3.split ∙ ap (λ z. z ++ s3.back) head ∙ ap (λ z. word.lexeme ∷ word.rest ++ name.lexeme ∷ name.rest ++ s5.back ++ s4.back ++ z) left.split)
     in
     let whole : ls ≡ word.lexeme ∷ word.rest ++ name.lexeme ∷ name.rest ++ s5.back ++ s4.back ++ left.lexeme ∷ (left.rest ++ s2.back) ++ right.lexeme ∷ [] =
-        s1.split ∙ ap (λ z. z ++ s1.back) (front ∙ append_assoc (word.lexeme ∷ word.rest ++ name.lexeme ∷ name.rest ++ s5.back ++ s4.back) (left.lexeme ∷ left.rest) s2.back)
-        ∙ ap (λ z. word.lexeme ∷ word.rest ++ name.lexeme ∷ name.rest ++ s5.back ++ s4.back ++ left.lexeme ∷ (left.rest ++ s2.back) ++ z) right.split
+    s1.split ∙ ap (λ z. z ++ s1.back) (front ∙ append_assoc (word.lexeme ∷ word.rest ++ name.lexeme ∷ name.rest ++ s5.back ++ s4.back) (left.lexeme ∷ left.rest) s2.back)
+    ∙ ap (λ z. word.lexeme ∷ word.rest ++ name.lexeme ∷ name.rest ++ s5.back ++ s4.back ++ left.lexeme ∷ (left.rest ++ s2.back) ++ z) right.split
     in
     let count : length written.vars ≡ length a_vars.vars = each_length _ written.vars c.vars named.vars ∙ sym (each_length _ a_vars.vars c.vars a_vars.names) in
     let total : length (methods_of written.members) ≡ length a_methods.items =
-        each_length _ (methods_of written.members) defs methods ∙ sym (numbered_length first defs) ∙ sym (each_length _ a_methods.items (numbered first defs) a_methods.names)
+    each_length _ (methods_of written.members) defs methods ∙ sym (numbered_length first defs) ∙ sym (each_length _ a_methods.items (numbered first defs) a_methods.names)
     in
     record {
       class = record { at = word.lexeme.at; kind = c.kind; name = name_at name.lexeme; vars = a_vars.vars; base = a_base.base; interfaces = a_interfaces.types; members = ms };

@@ -1,27 +1,25 @@
 -- An instruction that a text gives can be written in a canonical text.
-use Rattle.std.proofs.Common.{◌≡◌, ℕ, zero, suc, ◌+◌, ◌<◌, ◌≤◌, ◌^◌, ℤ, pos, negsuc, Bool, true, false, if◌then◌else◌, List, [], ◌∷◌, ◌++◌, length, map, Option, Some, None, refl, sym, ap, ◌∙◌, subst, codes, arith, Contains, All, slice_get, unwrap_or, is_some}
+use Rattle.std.proofs.Common.{◌≡◌, ℕ, zero, suc, ◌<◌, ◌≤◌, ◌^◌, Bool, true, false, if◌then◌else◌, List, [], ◌∷◌, length, Some, None, refl, sym, ap, ◌∙◌, subst, codes, arith, Contains, All, unwrap_or, is_some}
 use Rattle.std.specs.List.{AllByRecursion}
 use Rattle.std.specs.Int.Signed.{mag}
 use Rattle.std.proofs.lemmas.Bool.{true≢false}
 use Rattle.il_text.specs.Spelling.{is_negative, magnitude_of}
 use Rattle.il_model.specs.declared.form.Form.{Form}
-use Rattle.il_model.specs.declared.op.Op.{Op}
 use Rattle.il_model.specs.declared.member.MRef.{MRef}
 use Rattle.il_model.specs.declared.written.WrittenName.{WrittenName}
 use Rattle.il_model.specs.declared.written.WrittenOperand.{WrittenOperand}
 use Rattle.il_model.specs.declared.written.WrittenOperand.TheVariants as operand
 use Rattle.il_model.specs.declared.written.WrittenInstr.{WrittenInstr}
 use Rattle.il_model.specs.Lexemes.{Lexeme, Separated, last as last_part, next as next_part}
-use Rattle.il_model.specs.Literals.{int32_value, int64_value, place_value}
 use Rattle.il_model.specs.Forms.{OperandKind, called_method, word, no_text, FormWord, library_call, word_of, operand_kind}
-use Rattle.il_model.specs.Ops.{Operand, nothing, int32, int64, literal, place, target, targets, type, method, field, constrained, form_of, operand_of}
+use Rattle.il_model.specs.Ops.{Operand, targets, method}
 use Rattle.il_model.specs.Spellings.{short_words, Shortened, shortened}
 use Rattle.il_model.specs.Instructions.{IsLabel, IsInside, nothing_inside, type_inside, IsLibraryCall, library_words, IsOperand, nothing as spelled_nothing, int32_number, int64_number, text, place_number, target as spelled_target, targets as spelled_targets, type as spelled_type, called, method as spelled_method, field as spelled_field, constrained as spelled_constrained, IsInstr, long, library, short, short_whole}
 use Rattle.il_model.specs.Names.{Scope, Each, end, both}
-use Rattle.il_model.specs.LookUp.{NamesLabel, NamesOperand, names_nothing, names_int32, names_int64, names_literal, names_place, names_target, names_targets, names_type, names_method, names_field, names_constrained, NamesInstr}
+use Rattle.il_model.specs.LookUp.{NamesLabel, NamesOperand, names_int32, names_int64, names_literal, names_place, names_target, names_targets, names_type, names_method, names_field, names_constrained}
 use Rattle.il_model.specs.Canonical.{Printing, targets_of}
 use Rattle.il_print.proofs.AgainNumbers.{int32_low, int64_low}
-use Rattle.il_print.proofs.AgainMembers.{AreGenuine, genuine_front, genuine_back, genuine_rest, FitsRef, ref_fits, named_ref}
+use Rattle.il_print.proofs.AgainMembers.{AreGenuine, genuine_back, genuine_rest, FitsRef, ref_fits, named_ref}
 use Rattle.il_print.proofs.AgainForms.{Suits, suits_nothing, suits_int32, suits_int64, suits_text, suits_place, suits_target, suits_targets, suits_type, suits_call, suits_method, suits_field, suits_constrained}
 use Rattle.il_print.proofs.AgainOps.{IsLabelled, IsOwnCall, IsWritable, can_nothing, can_int32, can_int64, can_text, can_place, can_target, can_targets, can_type, can_call, can_method, can_field, can_constrained}
 
@@ -82,10 +80,73 @@ call_fits : (ls : List Lexeme) (f : Form) (o : WrittenOperand) → IsLibraryCall
 call_fits ls f o (library_words ws front inner back g u before behind split is a inside b) = inside_fits (operand_kind g) inner u inside
 
 shortened_fit : AllByRecursion (λ (row : Shortened). FitsOperand row.operand) shortened
-shortened_fit =
-    (omega arith, (omega arith, (omega arith, (omega arith, (omega arith, (omega arith, (omega arith, (omega arith, (omega arith, (omega arith,
-    (omega arith, (omega arith, (omega arith, (omega arith, (omega arith, (omega arith, (omega arith, (omega arith, (omega arith, (omega arith, (omega arith, (omega arith,
-    (tt, (tt, (tt, (tt, (tt, (tt, (tt, (tt, (tt, (tt, tt))))))))))))))))))))))))))))))))
+shortened_fit = (
+  omega arith,
+  (
+    omega arith,
+    (
+      omega arith,
+      (
+        omega arith,
+        (
+          omega arith,
+          (
+            omega arith,
+            (
+              omega arith,
+              (
+                omega arith,
+                (
+                  omega arith,
+                  (
+                    omega arith,
+                    (
+                      omega arith,
+                      (
+                        omega arith,
+                        (
+                          omega arith,
+                          (
+                            omega arith,
+                            (
+                              omega arith,
+                              (
+                                omega arith,
+                                (
+                                  omega arith,
+                                  (
+                                    omega arith,
+                                    (
+                                      omega arith,
+                                      (
+                                        omega arith,
+                                        (
+                                          omega arith,
+                                          (
+                                            omega arith,
+                                            (tt, (tt, (tt, (tt, (tt, (tt, (tt, (tt, (tt, (tt, tt)))))))))),
+                                          ),
+                                        ),
+                                      ),
+                                    ),
+                                  ),
+                                ),
+                              ),
+                            ),
+                          ),
+                        ),
+                      ),
+                    ),
+                  ),
+                ),
+              ),
+            ),
+          ),
+        ),
+      ),
+    ),
+  ),
+)
 
 pub instr_fits : (ls : List Lexeme) (i : WrittenInstr) → IsInstr ls i → AreGenuine ls → FitsOperand i.operand
 instr_fits ls i (long l ws f o is are) genuine = operand_fits (operand_kind f) ws o are (genuine_rest l ws genuine)
@@ -107,9 +168,73 @@ rows_written =
 
 shortened_written : AllByRecursion (λ (row : Shortened). is_some_word (word_of row.form) ≡ true) shortened
 unfolding is_some_word
-shortened_written =
-    (refl, (refl, (refl, (refl, (refl, (refl, (refl, (refl, (refl, (refl, (refl, (refl, (refl, (refl, (refl, (refl, (refl, (refl, (refl, (refl, (refl, (refl,
-    (refl, (refl, (refl, (refl, (refl, (refl, (refl, (refl, (refl, (refl, tt))))))))))))))))))))))))))))))))
+shortened_written = (
+  refl,
+  (
+    refl,
+    (
+      refl,
+      (
+        refl,
+        (
+          refl,
+          (
+            refl,
+            (
+              refl,
+              (
+                refl,
+                (
+                  refl,
+                  (
+                    refl,
+                    (
+                      refl,
+                      (
+                        refl,
+                        (
+                          refl,
+                          (
+                            refl,
+                            (
+                              refl,
+                              (
+                                refl,
+                                (
+                                  refl,
+                                  (
+                                    refl,
+                                    (
+                                      refl,
+                                      (
+                                        refl,
+                                        (
+                                          refl,
+                                          (
+                                            refl,
+                                            (refl, (refl, (refl, (refl, (refl, (refl, (refl, (refl, (refl, (refl, tt)))))))))),
+                                          ),
+                                        ),
+                                      ),
+                                    ),
+                                  ),
+                                ),
+                              ),
+                            ),
+                          ),
+                        ),
+                      ),
+                    ),
+                  ),
+                ),
+              ),
+            ),
+          ),
+        ),
+      ),
+    ),
+  ),
+)
 
 call_written : (ls : List Lexeme) (f : Form) (o : WrittenOperand) → IsLibraryCall ls f o → is_some_word (word_of f) ≡ true
 unfolding is_some_word

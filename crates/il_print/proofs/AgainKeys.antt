@@ -1,6 +1,5 @@
 -- Lexemes whose keys are known, taken apart.
-use Rattle.std.proofs.Common.{◌≡◌, List, [], ◌∷◌, ◌++◌, length, map, refl, ap, ◌∙◌, false}
-use Rattle.il_text.specs.declared.token.TokenKind.TheVariants as token
+use Rattle.std.proofs.Common.{◌≡◌, List, [], ◌∷◌, ◌++◌, map, refl, ap, ◌∙◌, false}
 use Rattle.il_model.specs.Lexemes.{Lexeme, Is, IsName, is_among}
 use Rattle.il_model.specs.Canonical.{Word}
 use Rattle.il_print.proofs.Keys.{Key, key_of, quoted, name_key}

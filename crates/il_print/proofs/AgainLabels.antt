@@ -1,15 +1,13 @@
 -- The labels of a canonical body: each place that is named has its own, and no two are alike.
-use Rattle.std.proofs.Common.{◌≡◌, ℕ, zero, suc, ◌+◌, ◌<◌, ◌≤◌, ◌^◌, ◌==◌, ◌||◌, Bool, true, false, if◌then◌else◌, List, [], ◌∷◌, ◌++◌, length, map, Some, refl, sym, ap, ◌∙◌, subst, codes, decimal, arith, Contains, slice_get, unwrap_or, bytes_eq, inl, inr, position}
-use Rattle.std.specs.List.{AllByRecursion, list_any, position_or_len, IsDistinct}
-use Rattle.std.proofs.lemmas.Bool.{true≢false, cases_Bool, or_cases, or_left, or_right, eqb-true, eq-eqb, ne_eqb, false_from_ne_true}
+use Rattle.std.proofs.Common.{◌≡◌, ℕ, zero, suc, ◌+◌, ◌<◌, ◌≤◌, ◌^◌, ◌==◌, Bool, true, false, if◌then◌else◌, List, [], ◌∷◌, ◌++◌, length, map, Some, refl, sym, ap, ◌∙◌, subst, decimal, arith, Contains, slice_get, unwrap_or, bytes_eq, inl, inr, position}
+use Rattle.std.specs.List.{AllByRecursion, list_any, IsDistinct}
+use Rattle.std.proofs.lemmas.Bool.{true≢false, cases_Bool, or_left, or_right, eqb-true, eq-eqb, false_from_ne_true}
 use Rattle.std.proofs.lemmas.Slice.Eq.{bytes_eq-Decides}
 use Rattle.il_text.specs.Spelling.{digits_value}
-use Rattle.il_model.specs.declared.op.Op.{Op}
-use Rattle.il_model.specs.Ops.{operand_of}
-use Rattle.il_model.specs.Canonical.{Printing, label_text, passing, targets_of}
+use Rattle.il_model.specs.Canonical.{Printing, label_text, passing}
 use Rattle.il_print.proofs.NumberTokens.{decimal_value}
 use Rattle.il_print.proofs.MarkLemmas.{position_of_some, within}
-use Rattle.il_print.proofs.AgainScopes.{Passes, first_passes}
+use Rattle.il_print.proofs.AgainScopes.{first_passes}
 use Rattle.il_print.proofs.AgainLines.{mark_if, mark_at, marks_from}
 
 -- ---- places that are named
@@ -24,14 +22,16 @@ passing_has test (suc count) from at low high e =
           has_rest from (passing test count (from + 1)) at (test from)
           (passing_has test count (from + 1) at (omega (arith, low, not_same from at later)) (omega (arith, high)) e)
     ] where
-  has_first : (n : ℕ) (ns : List ℕ) (at : ℕ) (b : Bool) → b ≡ true → (n == at) ≡ true → list_any (λ to. to == at) (if b then n ∷ ns else ns) ≡ true
-  has_first n ns at true e same = or_left (n == at) (list_any (λ to. to == at) ns) same
-  has_first n ns at false e same = absurd (true≢false (sym e))
-  has_rest : (n : ℕ) (ns : List ℕ) (at : ℕ) (b : Bool) → list_any (λ to. to == at) ns ≡ true → list_any (λ to. to == at) (if b then n ∷ ns else ns) ≡ true
-  has_rest n ns at true e = or_right (n == at) (list_any (λ to. to == at) ns) e
-  has_rest n ns at false e = e
-  not_same : (a b : ℕ) → (a == b) ≡ false → ¬ (a ≡ b)
-  not_same a b e same = true≢false (sym (eq-eqb a b same) ∙ e)
+      has_first : (n : ℕ) (ns : List ℕ) (at : ℕ) (b : Bool) → b ≡ true → (n == at) ≡ true → list_any (λ to. to == at) (if b then n ∷ ns else ns) ≡ true
+      has_first n ns at true e same = or_left (n == at) (list_any (λ to. to == at) ns) same
+      has_first n ns at false e same = absurd (true≢false (sym e))
+
+      has_rest : (n : ℕ) (ns : List ℕ) (at : ℕ) (b : Bool) → list_any (λ to. to == at) ns ≡ true → list_any (λ to. to == at) (if b then n ∷ ns else ns) ≡ true
+      has_rest n ns at true e = or_right (n == at) (list_any (λ to. to == at) ns) e
+      has_rest n ns at false e = e
+
+      not_same : (a b : ℕ) → (a == b) ≡ false → ¬ (a ≡ b)
+      not_same a b e same = true≢false (sym (eq-eqb a b same) ∙ e)
 
 -- what holds of each number of a list by a test
 pub each_number : (Q : ℕ → Type 0) (ns : List ℕ) → ((n : ℕ) → list_any (λ to. to == n) ns ≡ true → Q n) → AllByRecursion Q ns
@@ -42,11 +42,10 @@ each_number Q (n ∷ ns) f =
 pub each_item : {X : Type 0} (Q : ℕ → Type 0) (numbers : X → List ℕ) (xs : List X) → ((n : ℕ) → list_any (λ x. list_any (λ to. to == n) (numbers x)) xs ≡ true → Q n) →
     AllByRecursion (λ x. AllByRecursion Q (numbers x)) xs
 each_item Q numbers [] f = tt
-each_item Q numbers (x ∷ xs) f =
-    (
-      each_number Q (numbers x) (λ n e. f n (or_left (list_any (λ to. to == n) (numbers x)) (list_any (λ y. list_any (λ to. to == n) (numbers y)) xs) e)),
-      each_item Q numbers xs (λ n e. f n (or_right (list_any (λ to. to == n) (numbers x)) (list_any (λ y. list_any (λ to. to == n) (numbers y)) xs) e)),
-    )
+each_item Q numbers (x ∷ xs) f = (
+  each_number Q (numbers x) (λ n e. f n (or_left (list_any (λ to. to == n) (numbers x)) (list_any (λ y. list_any (λ to. to == n) (numbers y)) xs) e)),
+  each_item Q numbers xs (λ n e. f n (or_right (list_any (λ to. to == n) (numbers x)) (list_any (λ y. list_any (λ to. to == n) (numbers y)) xs) e)),
+)
 
 -- ---- each such place has its label
 
@@ -127,7 +126,7 @@ label_place places a b few has_a has_b e =
     let rank_b = unwrap_or (position (λ to. to == b) places) 0 in
     let digits : decimal rank_a ≡ decimal rank_b = ap digits_of_label e in
     let same : rank_a ≡ rank_b =
-        sym (decimal_value rank_a (rank_low places a has_a few)) ∙ ap (digits_value 10) digits ∙ decimal_value rank_b (rank_low places b has_b few)
+    sym (decimal_value rank_a (rank_low places a has_a few)) ∙ ap (digits_value 10) digits ∙ decimal_value rank_b (rank_low places b has_b few)
     in
     let item : Some a ≡ Some b = sym (rank_gives places a has_a) ∙ ap (slice_get places) same ∙ rank_gives places b has_b in
     ap (λ o. unwrap_or o a) item
@@ -135,13 +134,12 @@ label_place places a b few has_a has_b e =
 apart_from : (p : Printing) (at : ℕ) (ms : List (List ℕ × ℕ)) → length p.places < 2 ^ 64 → list_any (λ to. to == at) p.places ≡ true →
     AllByRecursion (IsMark p (at + 1)) ms → AllByRecursion (λ name. bytes_eq (label_text p.places at) name ≡ false) (map (λ m. m.0) ms)
 apart_from p at [] few has all = tt
-apart_from p at (m ∷ ms) few has all =
-    (
-      false_from_ne_true (bytes_eq (label_text p.places at) m.0) (λ hit.
-        let alike : label_text p.places at ≡ label_text p.places m.1 = (bytes_eq-Decides (label_text p.places at) m.0).0 hit ∙ all.0.name in
-        omega (arith, label_place p.places at m.1 few has all.0.has alike, all.0.above)),
-      apart_from p at ms few has all.1,
-    )
+apart_from p at (m ∷ ms) few has all = (
+  false_from_ne_true (bytes_eq (label_text p.places at) m.0) (λ hit.
+      let alike : label_text p.places at ≡ label_text p.places m.1 = (bytes_eq-Decides (label_text p.places at) m.0).0 hit ∙ all.0.name in
+      omega (arith, label_place p.places at m.1 few has all.0.has alike, all.0.above)),
+  apart_from p at ms few has all.1,
+)
 
 distinct_with : (p : Printing) (at : ℕ) (b : Bool) (ms : List (List ℕ × ℕ)) → list_any (λ to. to == at) p.places ≡ b → length p.places < 2 ^ 64 →
     AllByRecursion (IsMark p (at + 1)) ms → IsDistinct bytes_eq (map (λ m. m.0) ms) → IsDistinct bytes_eq (map (λ m. m.0) (mark_if p at b ++ ms))

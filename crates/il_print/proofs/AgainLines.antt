@@ -2,10 +2,9 @@
 use Rattle.std.proofs.Common.{◌≡◌, ℕ, ◌+◌, ◌==◌, Bool, true, false, if◌then◌else◌, List, [], ◌∷◌, ◌++◌, map, refl, sym, ap, ◌∙◌, subst, codes, decimal, append_assoc, append-nil}
 use Rattle.std.specs.List.{AllByRecursion, list_any}
 use Rattle.il_model.specs.declared.op.Op.{Op}
-use Rattle.il_model.specs.declared.written.WrittenInstr.{WrittenInstr}
 use Rattle.il_model.specs.declared.written.WrittenLine.{WrittenLine}
 use Rattle.il_model.specs.declared.written.WrittenLine.TheVariants as line
-use Rattle.il_model.specs.Lexemes.{Lexeme, Is, IsName, name_at, is_among}
+use Rattle.il_model.specs.Lexemes.{Lexeme, name_at, is_among}
 use Rattle.il_model.specs.Instructions.{IsInstr}
 use Rattle.il_model.specs.Bodies.{AreLines, no_lines, labelled, instruction}
 use Rattle.il_model.specs.Bounds.{instrs_of}
@@ -14,7 +13,7 @@ use Rattle.il_model.specs.LookUp.{NamesInstr, labels_from}
 use Rattle.il_model.specs.Canonical.{Word, Printing, label_text}
 use Rattle.il_print.proofs.Keys.{Key, key_of, quoted, label_key, label_line_keys, op_keys, code_keys}
 use Rattle.il_print.proofs.AgainKeys.{keys_first, keys_split, keys_none, is_quoted, is_name}
-use Rattle.il_print.proofs.AgainLists.{ItemAgain, Reads}
+use Rattle.il_print.proofs.AgainLists.{Reads}
 
 -- the labels of a body, each with the place that it stands before
 

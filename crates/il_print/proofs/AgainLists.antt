@@ -1,5 +1,5 @@
 -- Lists of parts in a canonical text: parts with a mark between each two, parts one after another, parts in brackets.
-use Rattle.std.proofs.Common.{◌≡◌, List, [], ◌∷◌, ◌++◌, map, flat_map, refl, sym, ap, ◌∙◌, subst}
+use Rattle.std.proofs.Common.{◌≡◌, List, [], ◌∷◌, ◌++◌, map, flat_map, sym, ap, ◌∙◌, subst}
 use Rattle.std.specs.List.{AllByRecursion}
 use Rattle.il_model.specs.Lexemes.{Lexeme, Is, Many, none, more, Separated, last, next}
 use Rattle.il_model.specs.Names.{Each, end, both}

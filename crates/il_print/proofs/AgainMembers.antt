@@ -1,5 +1,5 @@
 -- Members of a canonical text, as instructions name them.
-use Rattle.std.proofs.Common.{◌≡◌, ℕ, zero, suc, ◌+◌, ◌<◌, ◌≤◌, ◌^◌, Bool, true, false, ◌&&◌, if◌then◌else◌, List, [], ◌∷◌, ◌++◌, length, map, Option, Some, None, refl, sym, ap, ◌∙◌, subst, codes, arith, append_assoc, length-append, slice_index_or}
+use Rattle.std.proofs.Common.{◌≡◌, ℕ, zero, suc, ◌<◌, ◌≤◌, ◌^◌, Bool, true, false, ◌&&◌, if◌then◌else◌, List, [], ◌∷◌, ◌++◌, length, map, Option, Some, None, refl, sym, ap, ◌∙◌, subst, codes, arith, append_assoc, length-append, slice_index_or}
 use Rattle.std.specs.List.{AllByRecursion}
 use Rattle.type_tree.specs.declared.tree.TExpr.{TExpr}
 use Rattle.il_text.specs.declared.token.TokenKind.TheVariants as token
@@ -9,19 +9,19 @@ use Rattle.il_model.specs.declared.member.FRef.{FRef}
 use Rattle.il_model.specs.declared.written.WrittenType.{WrittenType}
 use Rattle.il_model.specs.declared.written.WrittenMethodRef.{WrittenMethodRef}
 use Rattle.il_model.specs.declared.written.WrittenFieldRef.{WrittenFieldRef}
-use Rattle.il_model.specs.Lexemes.{Lexeme, Is, IsName, IsOptional, absent, present, is_among}
+use Rattle.il_model.specs.Lexemes.{Lexeme, IsOptional, absent, present, is_among}
 use Rattle.il_model.specs.Words.{quoted_words}
 use Rattle.il_model.specs.Types.{AreTypes, last_type, next_type, AreArguments, no_arguments, arguments}
 use Rattle.il_model.specs.Members.{unless_read, IsMethodRef, method_ref, IsFieldRef, field_ref}
 use Rattle.il_model.specs.Find.{class_number_of}
-use Rattle.il_model.specs.Names.{Scope, NamesType, NamesTypes, no_types, more_types, NamesResult, NamesParams}
+use Rattle.il_model.specs.Names.{Scope, NamesTypes, no_types, more_types, NamesResult, NamesParams}
 use Rattle.il_model.specs.LookUp.{arity_of, scope_of_member, NamesMethodRef, NamesFieldRef}
 use Rattle.il_model.specs.Canonical.{Word}
 use Rattle.il_print.proofs.Keys.{Key, key_of, quoted, name_key, type_keys, result_keys, angled_keys, params_keys, method_ref_keys, field_ref_keys}
 use Rattle.il_print.proofs.AgainKeys.{keys_first, keys_split, keys_one, keys_none, is_quoted, is_name}
 use Rattle.il_print.proofs.AgainScopes.{IsFair, AreQuoted}
 use Rattle.il_print.proofs.AgainTypes.{type_again}
-use Rattle.il_print.proofs.AgainLists.{ItemAgain, Reads}
+use Rattle.il_print.proofs.AgainLists.{Reads}
 use Rattle.il_print.proofs.AgainParams.{params_again, result_again, arguments_again}
 
 -- ---- the lexemes of an accepted text
@@ -128,17 +128,17 @@ method_again s fair written m named ls e =
     let args = arguments_again s fair written.args m.args named.names.args name.rest name.are in
     let same : length written.args ≡ length args.types = names_length s written.args m.args named.names.args ∙ sym (names_length s args.types m.args args.names) in
     let result = result_again inside fair_inside written.result m.result named.names.gives (unless_read m.instance (codes "instance"))
-        (unless_quoted m.instance (codes "instance") refl) s4.back s4.second
+    (unless_quoted m.instance (codes "instance") refl) s4.back s4.second
     in
     let params = params_again inside fair_inside written.params m.params named.names.params s1.back s1.second in
     let c = params.enclosed in
     let front : s1.front ≡ s4.front ++ s4.back ++ s3.back ++ colons.lexeme ∷ name.lexeme ∷ name.rest =
-        s2.split ∙ ap (λ z. z ++ s2.back) (s3.split ∙ ap (λ z. z ++ s3.back) s4.split)
-        ∙ ap (λ z. s4.front ++ s4.back ++ s3.back ++ z) (colons.split ∙ ap (λ z. colons.lexeme ∷ z) name.split)
+    s2.split ∙ ap (λ z. z ++ s2.back) (s3.split ∙ ap (λ z. z ++ s3.back) s4.split)
+    ∙ ap (λ z. s4.front ++ s4.back ++ s3.back ++ z) (colons.split ∙ ap (λ z. colons.lexeme ∷ z) name.split)
     in
     let spelled : ls ≡ s4.front ++ s4.back ++ s3.back ++ colons.lexeme ∷ name.lexeme ∷ name.rest ++ c.left ∷ c.inner ++ c.right ∷ [] =
-        s1.split ∙ ap (λ z. z ++ s1.back) front ∙ ap (λ z. s4.front ++ s4.back ++ s3.back ++ colons.lexeme ∷ name.lexeme ∷ name.rest ++ z) c.split
-        ∙ sym (append_assoc (s4.front ++ s4.back ++ s3.back ++ colons.lexeme ∷ name.lexeme ∷ name.rest) (c.left ∷ c.inner) (c.right ∷ []))
+    s1.split ∙ ap (λ z. z ++ s1.back) front ∙ ap (λ z. s4.front ++ s4.back ++ s3.back ++ colons.lexeme ∷ name.lexeme ∷ name.rest ++ z) c.split
+    ∙ sym (append_assoc (s4.front ++ s4.back ++ s3.back ++ colons.lexeme ∷ name.lexeme ∷ name.rest) (c.left ∷ c.inner) (c.right ∷ []))
     in
     record {
       item = record { instance = m.instance; result = result.item; class = class.type; name = name.lexeme.bytes; args = args.types; params = params.params };
@@ -166,7 +166,7 @@ field_again s fair written f named ls e =
     let kind = type_again (scope_of_member s f.class 0) (fair_member s fair f.class 0 (omega arith)) written.kind f.kind named.kind [] refl s2.front s2.first in
     let class = type_again s fair written.class f.class named.class [] refl s2.back s2.second in
     let spelled : ls ≡ s2.front ++ s2.back ++ colons.lexeme ∷ name.lexeme ∷ [] =
-        s1.split ∙ ap (λ z. z ++ s1.back) s2.split ∙ ap (λ z. s2.front ++ s2.back ++ z) (colons.split ∙ ap (λ z. colons.lexeme ∷ z) name.split)
+    s1.split ∙ ap (λ z. z ++ s1.back) s2.split ∙ ap (λ z. s2.front ++ s2.back ++ z) (colons.split ∙ ap (λ z. colons.lexeme ∷ z) name.split)
     in
     record {
       item = record { kind = kind.type; class = class.type; name = name.lexeme.bytes };

@@ -1,33 +1,30 @@
 -- Fields and methods of a canonical text, as classes define them.
-use Rattle.std.proofs.Common.{◌≡◌, ℕ, zero, suc, ◌+◌, ◌<◌, ◌≤◌, ◌^◌, ◌==◌, Bool, true, false, if◌then◌else◌, List, [], ◌∷◌, ◌++◌, length, map, flat_map, Option, Some, None, option_to_list, refl, sym, ap, ◌∙◌, subst, codes, arith, All, append_assoc, append-nil, bytes_eq}
+use Rattle.std.proofs.Common.{◌≡◌, ℕ, zero, suc, ◌<◌, ◌≤◌, ◌^◌, Bool, true, false, if◌then◌else◌, List, [], ◌∷◌, ◌++◌, length, map, flat_map, Option, Some, None, option_to_list, refl, sym, ap, ◌∙◌, subst, codes, arith, All, append_assoc, append-nil, bytes_eq}
 use Rattle.std.specs.List.{AllByRecursion, IsDistinct}
-use Rattle.type_tree.specs.declared.tree.TExpr.{TExpr}
 use Rattle.il_model.specs.declared.class.VarDef.{VarDef}
 use Rattle.il_model.specs.declared.class.FieldDef.{FieldDef}
 use Rattle.il_model.specs.declared.method.Shape.{Shape}
 use Rattle.il_model.specs.declared.method.Shape.TheVariants as shape
 use Rattle.il_model.specs.declared.method.Body.{Body}
 use Rattle.il_model.specs.declared.method.MethodDef.{MethodDef}
-use Rattle.il_model.specs.declared.written.WrittenType.{WrittenType}
-use Rattle.il_model.specs.declared.written.WrittenParam.{WrittenParam}
 use Rattle.il_model.specs.declared.written.WrittenVar.{WrittenVar}
 use Rattle.il_model.specs.declared.written.WrittenBody.{WrittenBody}
 use Rattle.il_model.specs.declared.written.WrittenField.{WrittenField}
 use Rattle.il_model.specs.declared.written.WrittenMethod.{WrittenMethod}
-use Rattle.il_model.specs.Lexemes.{Lexeme, Is, IsName, name_at, is_among}
+use Rattle.il_model.specs.Lexemes.{Lexeme, name_at, is_among}
 use Rattle.il_model.specs.Bounds.{instrs_of, IsSmallMethod}
 use Rattle.il_model.specs.Bodies.{IsBody}
 use Rattle.il_model.specs.Words.{shape_words}
 use Rattle.il_model.specs.Members.{unless_read}
 use Rattle.il_model.specs.Classes.{IsField, field, IsShape, instance, static, virtual, newslot, abstract, MayHaveVars, IsBodyOrNone, bodiless, braced, IsMethod, method}
-use Rattle.il_model.specs.Names.{Scope, Each, end, both, Perhaps, neither, each, NamesResult, NamesParams, NamesVar, NamesVars}
+use Rattle.il_model.specs.Names.{Scope, end, both, Perhaps, neither, each, NamesResult, NamesParams, NamesVars}
 use Rattle.il_model.specs.LookUp.{Known, scope_of, names_of_vars, NamesBody, NamesMethod, NamesField, has_entry}
 use Rattle.il_model.specs.Canonical.{Word, shape_text}
 use Rattle.il_print.proofs.Keys.{Key, key_of, quoted, all_quoted, name_key, type_keys, result_keys, vars_keys, params_keys, field_keys, method_head_keys, bodied_keys, body_keys, method_keys}
 use Rattle.il_print.proofs.AgainKeys.{keys_first, keys_split, keys_one, keys_none, is_quoted, is_name}
 use Rattle.il_print.proofs.AgainScopes.{ArePlain, IsFair, AreQuoted}
 use Rattle.il_print.proofs.AgainTypes.{type_again}
-use Rattle.il_print.proofs.AgainLists.{ItemAgain, Reads, Enclosed, enclosed}
+use Rattle.il_print.proofs.AgainLists.{Reads, enclosed}
 use Rattle.il_print.proofs.AgainParams.{params_again, result_again, vars_again}
 use Rattle.il_print.proofs.AgainMembers.{AreGenuine, genuine_front, genuine_back, genuine_rest, optional_again, unless_quoted}
 use Rattle.il_print.proofs.AgainBodies.{each_length, body_again}
@@ -43,7 +40,7 @@ field_def_again s fair written f named ls e =
     let name = keys_one s1.back (name_key f.name) s1.second in
     let a = type_again s fair written.kind f.kind named.kind (unless_read f.fixed (codes "static")) (unless_quoted f.fixed (codes "static") refl) s2.back s2.second in
     let spelled : ls ≡ word.lexeme ∷ s2.front ++ s2.back ++ name.lexeme ∷ [] =
-        word.split ∙ ap (λ z. word.lexeme ∷ z) (s1.split ∙ ap (λ z. z ++ s1.back) s2.split ∙ ap (λ z. s2.front ++ s2.back ++ z) name.split)
+    word.split ∙ ap (λ z. word.lexeme ∷ z) (s1.split ∙ ap (λ z. z ++ s1.back) s2.split ∙ ap (λ z. s2.front ++ s2.back ++ z) name.split)
     in
     record {
       item = record { fixed = f.fixed; kind = a.type; name = name_at name.lexeme };
@@ -137,7 +134,7 @@ bodied_again s fair literals is_entry lexemes written o is genuine (each w b nam
     let c = enclosed (codes "{") (codes "}") (body_keys s.names literals is_entry b) ls e in
     let r = body_again s fair literals is_entry own.0 w b own.1 own.2 named short c.inner c.are in
     let size : length (instrs_of r.body.lines) ≡ length (instrs_of w.lines) =
-        each_length _ (instrs_of r.body.lines) b.code r.names.code ∙ sym (each_length _ (instrs_of w.lines) b.code named.code)
+    each_length _ (instrs_of r.body.lines) b.code r.names.code ∙ sym (each_length _ (instrs_of w.lines) b.code named.code)
     in
     record {
       body = Some r.body;
@@ -146,9 +143,9 @@ bodied_again s fair literals is_entry lexemes written o is genuine (each w b nam
       entries = λ number. ap (map (λ (x : ℕ). number)) (append-nil (option_to_list r.body.entry)) ∙ r.entries number ∙ one_entry is_entry number b;
       small = one_small r.body (omega (arith, size, short));
     } where
-  one_small : (b : WrittenBody) → length (instrs_of b.lines) ≤ 16384 → IsSmallBody (Some b)
-  one_small b short zero d inside = short
-  one_small b short (suc k) d inside = absurd (omega (arith, inside))
+      one_small : (b : WrittenBody) → length (instrs_of b.lines) ≤ 16384 → IsSmallBody (Some b)
+      one_small b short zero d inside = short
+      one_small b short (suc k) d inside = absurd (omega (arith, inside))
 
 -- ---- methods
 
@@ -204,7 +201,7 @@ method_def_again known fair owner of_class low is_entry written m spelled named 
     let parts = method_parts spelled.lexemes written spelled.is spelled.genuine in
     let s1 = keys_split ls (method_head_keys known.names m) (bodied_keys known.names known.literals is_entry m.body) e in
     let s2 = keys_split s1.front (quoted (codes ".method") ∷ all_quoted (shape_text m.shape) ++ result_keys known.names m.result ++ name_key m.name ∷ vars_keys known.names m.vars)
-        (params_keys known.names m.params) s1.first
+    (params_keys known.names m.params) s1.first
     in
     let s3 = keys_split s2.front (quoted (codes ".method") ∷ all_quoted (shape_text m.shape) ++ result_keys known.names m.result) (name_key m.name ∷ vars_keys known.names m.vars) s2.first in
     let s4 = keys_split s3.front (quoted (codes ".method") ∷ all_quoted (shape_text m.shape)) (result_keys known.names m.result) s3.first in
@@ -218,15 +215,15 @@ method_def_again known fair owner of_class low is_entry written m spelled named 
     let c = params.enclosed in
     let count : length written.vars ≡ length vars.vars = each_length _ written.vars m.vars named.vars ∙ sym (each_length _ vars.vars m.vars vars.names) in
     let front : s2.front ≡ word.lexeme ∷ word.rest ++ s4.back ++ name.lexeme ∷ name.rest =
-        s3.split ∙ ap (λ z. z ++ s3.back) (s4.split ∙ ap (λ z. z ++ s4.back) word.split) ∙ ap (λ z. word.lexeme ∷ word.rest ++ s4.back ++ z) name.split
+    s3.split ∙ ap (λ z. z ++ s3.back) (s4.split ∙ ap (λ z. z ++ s4.back) word.split) ∙ ap (λ z. word.lexeme ∷ word.rest ++ s4.back ++ z) name.split
     in
     let head : s1.front ≡ word.lexeme ∷ word.rest ++ s4.back ++ name.lexeme ∷ name.rest ++ c.left ∷ c.inner ++ c.right ∷ [] =
-        s2.split ∙ ap (λ z. z ++ s2.back) front ∙ ap (λ z. word.lexeme ∷ word.rest ++ s4.back ++ name.lexeme ∷ name.rest ++ z) c.split
-        ∙ sym (append_assoc (word.lexeme ∷ word.rest ++ s4.back ++ name.lexeme ∷ name.rest) (c.left ∷ c.inner) (c.right ∷ []))
+    s2.split ∙ ap (λ z. z ++ s2.back) front ∙ ap (λ z. word.lexeme ∷ word.rest ++ s4.back ++ name.lexeme ∷ name.rest ++ z) c.split
+    ∙ sym (append_assoc (word.lexeme ∷ word.rest ++ s4.back ++ name.lexeme ∷ name.rest) (c.left ∷ c.inner) (c.right ∷ []))
     in
     let whole : ls ≡ word.lexeme ∷ word.rest ++ s4.back ++ name.lexeme ∷ name.rest ++ c.left ∷ c.inner ++ c.right ∷ s1.back =
-        s1.split ∙ ap (λ z. z ++ s1.back) head
-        ∙ append_assoc (word.lexeme ∷ word.rest ++ s4.back ++ name.lexeme ∷ name.rest ++ c.left ∷ c.inner) (c.right ∷ []) s1.back
+    s1.split ∙ ap (λ z. z ++ s1.back) head
+    ∙ append_assoc (word.lexeme ∷ word.rest ++ s4.back ++ name.lexeme ∷ name.rest ++ c.left ∷ c.inner) (c.right ∷ []) s1.back
     in
     record {
       item = record { at = word.lexeme.at; shape = m.shape; result = result.item; name = name_at name.lexeme; vars = vars.vars; params = params.params; body = rest.body };

@@ -1,16 +1,16 @@
 -- Numbers and literals of a canonical text have the values that were printed.
-use Rattle.std.proofs.Common.{◌≡◌, ℕ, zero, suc, ◌+◌, ◌-◌, ◌*◌, ◌^◌, ◌<◌, ◌≤◌, ◌==◌, ◌&&◌, ◌||◌, Bool, true, false, if◌then◌else◌, nat_le, nat_lt, ℤ, pos, negsuc, neg_ℤ, List, [], ◌∷◌, ◌++◌, length, take, drop, flat_map, Option, Some, None, refl, sym, ap, ◌∙◌, subst, decimal, arith, unwrap_or, is_some, lt-ltb, inl, inr, append_assoc, length-append}
+use Rattle.std.proofs.Common.{◌≡◌, ℕ, zero, suc, ◌+◌, ◌-◌, ◌^◌, ◌<◌, ◌≤◌, ◌==◌, ◌&&◌, ◌||◌, Bool, true, false, if◌then◌else◌, nat_le, nat_lt, ℤ, pos, negsuc, neg_ℤ, List, [], ◌∷◌, ◌++◌, length, take, flat_map, Option, Some, None, refl, sym, ap, ◌∙◌, subst, decimal, arith, unwrap_or, is_some, lt-ltb, inl, inr, length-append}
 use Rattle.std.specs.List.{list_all}
 use Rattle.std.specs.Fmt.{signed_decimal}
 use Rattle.std.specs.Int.{Width, w32, w64, cast_signed}
 use Rattle.std.specs.Int.Signed.{mag}
 use Rattle.std.proofs.Math.Facts.{sfits_to_z}
-use Rattle.std.proofs.lemmas.Bool.{true≢false, cases_Bool, and_parts, and_from, ltb-true, leb-true, le-leb, eqb-true, eq-eqb}
+use Rattle.std.proofs.lemmas.Bool.{true≢false, cases_Bool, and_parts, ltb-true, leb-true, le-leb, eqb-true}
 use Rattle.il_text.specs.Bytes.{is_digit, is_hex_digit}
 use Rattle.il_text.specs.Spelling.{is_run, is_led_by, is_unsigned, is_hexadecimal, is_negative, magnitude_of}
 use Rattle.il_model.specs.Literals.{signed_literal, int32_value, int64_value, place_value, escaped_byte, unescaped, text_value}
 use Rattle.il_model.specs.Canonical.{escaped, literal_text}
-use Rattle.il_print.proofs.NumberTokens.{decimal_run, decimal_value, digits_magnitude, digits_unsigned, no_digit, run_all}
+use Rattle.il_print.proofs.NumberTokens.{decimal_run, decimal_value, digits_magnitude, digits_unsigned, no_digit}
 
 -- ---- which numbers a text gives
 
@@ -80,7 +80,7 @@ signed_again width size (pos n) low within =
     ∙ ap (λ t. if t then Some (pos n) else None) (lt-ltb n (2 ^ (size - 1)) low)
 signed_again width size (negsuc n) low within =
     let value : magnitude_of (45 ∷ decimal (suc n)) ≡ suc n =
-        digits_unsigned (decimal (suc n)) (decimal_run (suc n)) ∙ decimal_value (suc n) (omega (arith, within))
+    digits_unsigned (decimal (suc n)) (decimal_run (suc n)) ∙ decimal_value (suc n) (omega (arith, within))
     in
     ap (λ t. by_tests width size t (is_hexadecimal (45 ∷ decimal (suc n))) (magnitude_of (45 ∷ decimal (suc n)))) (digits_are_number (decimal (suc n)) (decimal_run (suc n)))
     ∙ ap (λ m. by_tests width size true (is_hexadecimal (45 ∷ decimal (suc n))) m) value

@@ -1,5 +1,5 @@
 -- Instructions of a canonical text, by what they hold.
-use Rattle.std.proofs.Common.{◌≡◌, ℕ, zero, suc, ◌+◌, ◌<◌, ◌≤◌, ◌^◌, ℤ, Bool, true, false, List, [], ◌∷◌, ◌++◌, length, map, Option, Some, None, refl, sym, ap, ◌∙◌, subst, codes, decimal, arith, append_assoc, Contains, slice_get, unwrap_or}
+use Rattle.std.proofs.Common.{◌≡◌, ℕ, ◌<◌, ◌^◌, ℤ, List, [], ◌∷◌, ◌++◌, map, Some, refl, sym, ap, ◌∙◌, subst, codes, decimal, Contains, slice_get, unwrap_or}
 use Rattle.std.specs.List.{AllByRecursion}
 use Rattle.std.specs.Fmt.{signed_decimal}
 use Rattle.std.specs.Int.Signed.{mag}
@@ -8,30 +8,29 @@ use Rattle.il_model.specs.declared.member.MRef.{MRef}
 use Rattle.il_model.specs.declared.member.FRef.{FRef}
 use Rattle.il_model.specs.declared.form.Form.{Form}
 use Rattle.il_model.specs.declared.op.Op.{Op}
-use Rattle.il_model.specs.declared.written.WrittenName.{WrittenName}
 use Rattle.il_model.specs.declared.written.WrittenType.{WrittenType}
 use Rattle.il_model.specs.declared.written.WrittenMethodRef.{WrittenMethodRef}
 use Rattle.il_model.specs.declared.written.WrittenFieldRef.{WrittenFieldRef}
 use Rattle.il_model.specs.declared.written.WrittenOperand.{WrittenOperand}
 use Rattle.il_model.specs.declared.written.WrittenOperand.TheVariants as operand
 use Rattle.il_model.specs.declared.written.WrittenInstr.{WrittenInstr}
-use Rattle.il_model.specs.Lexemes.{Lexeme, Is, name_at, Separated}
+use Rattle.il_model.specs.Lexemes.{Lexeme, name_at}
 use Rattle.il_model.specs.Literals.{int32_value, int64_value, place_value, text_value}
-use Rattle.il_model.specs.Forms.{OperandKind, no_operand, int32_literal, int64_literal, text_literal, label, labels, type_operand, called_method, method_operand, field_operand, constrained_method, place as numbered_place, word, library_call, no_text, word_of, operand_kind}
+use Rattle.il_model.specs.Forms.{OperandKind, no_operand, int32_literal, int64_literal, text_literal, label, labels, type_operand, called_method, method_operand, field_operand, constrained_method, place as numbered_place, word, no_text, word_of, operand_kind}
 use Rattle.il_model.specs.Ops.{Operand, nothing, int32, int64, literal, place, target, targets, type, method, field, constrained, form_of, operand_of}
 use Rattle.il_model.specs.Spellings.{plain_name}
 use Rattle.il_model.specs.Instructions.{IsLabel, label_name, plain_words, IsInside, nothing_inside, type_inside, IsLibraryCall, library_words, IsOperand, nothing as spelled_nothing, int32_number, int64_number, text, place_number, target as spelled_target, targets as spelled_targets, type as spelled_type, called, method as spelled_method, field as spelled_field, constrained as spelled_constrained, IsInstr, long, library}
-use Rattle.il_model.specs.Names.{Scope, Each, NamesType}
+use Rattle.il_model.specs.Names.{Scope, NamesType}
 use Rattle.il_model.specs.LookUp.{NamesLabel, NamesOperand, names_nothing, names_int32, names_int64, names_literal, names_place, names_target, names_targets, names_type, names_method, names_field, names_constrained, NamesInstr, NamesFieldRef}
 use Rattle.il_model.specs.Canonical.{Word, Printing, label_text, literal_text}
-use Rattle.il_print.proofs.Keys.{Key, key_of, quoted, all_quoted, name_key, number_key, literal_key, label_key, keys_between, operand_keys, form_keys, op_keys, method_ref_keys, type_keys}
+use Rattle.il_print.proofs.Keys.{Key, key_of, quoted, all_quoted, number_key, literal_key, label_key, keys_between, operand_keys, form_keys, op_keys, method_ref_keys, type_keys}
 use Rattle.il_print.proofs.AgainKeys.{keys_first, keys_split, keys_one, keys_none, is_quoted, is_name}
 use Rattle.il_print.proofs.AgainScopes.{IsFair}
 use Rattle.il_print.proofs.AgainTypes.{type_again}
-use Rattle.il_print.proofs.AgainLists.{ItemAgain, Reads, separated_again, Enclosed, enclosed}
+use Rattle.il_print.proofs.AgainLists.{Reads, separated_again, enclosed}
 use Rattle.il_print.proofs.AgainNumbers.{int32_again, int64_again, place_again, text_again}
 use Rattle.il_print.proofs.AgainMembers.{NamedRef, method_again, field_again}
-use Rattle.il_print.proofs.AgainForms.{Inside, in_none, in_type, FormWritten, by_word, by_call, never, form_written}
+use Rattle.il_print.proofs.AgainForms.{Inside, in_none, in_type, FormWritten, by_word, by_call, never}
 
 -- the name that a place has is a label before it
 abbrev pub IsLabelled : Printing → List (List ℕ × ℕ) → ℕ → Type 0
@@ -98,7 +97,7 @@ operand_again s fair p same marks kind o (can_int64 n low) ls e =
 operand_again s fair p same marks kind o (can_text number bytes found) ls e =
     let one = keys_one ls (literal_key (literal_text (unwrap_or (slice_get p.literals number) []))) e in
     let value : text_value one.lexeme.bytes ≡ bytes =
-        ap (λ k. text_value k.bytes) one.is ∙ text_again (unwrap_or (slice_get p.literals number) []) ∙ ap (λ f. unwrap_or f []) found
+    ap (λ k. text_value k.bytes) one.is ∙ text_again (unwrap_or (slice_get p.literals number) []) ∙ ap (λ f. unwrap_or f []) found
     in
     record {
       item = operand.Text (text_value one.lexeme.bytes);
@@ -139,7 +138,7 @@ operand_again s fair p same marks kind o (can_field written f named) ls e =
     record { item = operand.Field a.item; is = spelled_field ls a.item a.is; names = names_field a.item f a.names }
 operand_again s fair p same marks kind o (can_constrained written named t m is ref) ls e =
     let e1 : map key_of ls ≡ type_keys s.names t ++ quoted (codes "callvirt") ∷ method_ref_keys s.names m =
-        e ∙ ap (λ names. operand_keys (record p { names = names }) (constrained t m)) same
+    e ∙ ap (λ names. operand_keys (record p { names = names }) (constrained t m)) same
     in
     let split = keys_split ls (type_keys s.names t) (quoted (codes "callvirt") ∷ method_ref_keys s.names m) e1 in
     let l = keys_first split.back (quoted (codes "callvirt")) (method_ref_keys s.names m) split.second in
@@ -187,7 +186,7 @@ instr_again s fair p same marks made can some (by_word w is) ls e =
     }
 instr_again s fair p same marks made can some (by_call first last is short_first short_last no_first no_last inside) ls e =
     let whole : map key_of ls ≡ quoted (codes "call") ∷ all_quoted first ++ operand_keys p (operand_of made) ++ all_quoted last =
-        e ∙ ap (λ fw. form_keys fw (operand_keys p (operand_of made))) is
+    e ∙ ap (λ fw. form_keys fw (operand_keys p (operand_of made))) is
     in
     let l = keys_first ls (quoted (codes "call")) _ whole in
     let s1 = keys_split l.rest (all_quoted first ++ operand_keys p (operand_of made)) (all_quoted last) l.are in

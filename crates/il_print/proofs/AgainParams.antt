@@ -3,19 +3,18 @@ use Rattle.std.proofs.Common.{◌≡◌, true, false, ◌≤◌, length, arith, 
 use Rattle.type_tree.specs.declared.tree.TExpr.{TExpr}
 use Rattle.il_model.specs.declared.class.VarDef.{VarDef}
 use Rattle.il_model.specs.declared.method.PType.{PType}
-use Rattle.il_model.specs.declared.method.PType.TheVariants as ptype
 use Rattle.il_model.specs.declared.written.WrittenType.{WrittenType}
 use Rattle.il_model.specs.declared.written.WrittenParam.{WrittenParam}
 use Rattle.il_model.specs.declared.written.WrittenVar.{WrittenVar}
-use Rattle.il_model.specs.Lexemes.{Lexeme, Is, name_at}
-use Rattle.il_model.specs.Types.{IsType, AreTypes, IsResult, void, value, IsParam, by_value, pointer, AreParams, no_params, params, AreArguments, no_arguments, arguments, IsVar, unbounded, bounded, AreVars, no_vars, vars}
-use Rattle.il_model.specs.Names.{Scope, Each, end, both, Perhaps, neither, each, NamesTypes, no_types, more_types, NamesType, NamesResult, NamesParam, by_pointer, by_value as of_value, NamesParams, NamesVar, NamesVars}
+use Rattle.il_model.specs.Lexemes.{Lexeme, name_at}
+use Rattle.il_model.specs.Types.{AreTypes, IsResult, void, value, IsParam, by_value, pointer, AreParams, no_params, params, AreArguments, no_arguments, arguments, IsVar, unbounded, bounded, AreVars, no_vars, vars}
+use Rattle.il_model.specs.Names.{Scope, end, neither, each, NamesTypes, no_types, more_types, NamesResult, NamesParam, by_pointer, by_value as of_value, NamesParams, NamesVar, NamesVars}
 use Rattle.il_model.specs.Canonical.{Word}
-use Rattle.il_print.proofs.Keys.{Key, key_of, quoted, name_key, keys_between, angled_keys, type_keys, bound_keys, var_keys, vars_keys, param_keys, params_keys, result_keys}
+use Rattle.il_print.proofs.Keys.{key_of, quoted, name_key, keys_between, angled_keys, type_keys, bound_keys, var_keys, vars_keys, param_keys, params_keys, result_keys}
 use Rattle.il_print.proofs.AgainKeys.{keys_first, keys_split, keys_one, keys_none, is_quoted, is_name}
 use Rattle.il_print.proofs.AgainScopes.{IsFair, AreQuoted}
 use Rattle.il_print.proofs.AgainTypes.{type_again, rest_again, keys_after, between-after}
-use Rattle.il_print.proofs.AgainLists.{ItemAgain, Reads, SeparatedAgain, separated_again, all_read, Enclosed, enclosed}
+use Rattle.il_print.proofs.AgainLists.{ItemAgain, Reads, separated_again, all_read, Enclosed, enclosed}
 
 -- ---- one type or several
 
@@ -30,7 +29,7 @@ pub types_again : (s : Scope) → IsFair s → (mark : Word) (written : List Wri
 types_again s fair mark written ts (no_types s') some ls e = absurd (omega (arith, some))
 types_again s fair mark written ts (more_types s' w1 t ws1 ts1 is are) some ls e =
     let split = keys_split ls (type_keys s.names t) (keys_after mark (map (type_keys s.names) ts1))
-        (e ∙ between-after mark (type_keys s.names t) (map (type_keys s.names) ts1))
+    (e ∙ between-after mark (type_keys s.names t) (map (type_keys s.names) ts1))
     in
     let a = type_again s fair w1 t is [] refl split.front split.first in
     let b = rest_again s fair ws1 ts1 are mark split.back split.second in

@@ -2,7 +2,6 @@
 use Rattle.std.proofs.Common.{◌≡◌, ℕ, ◌+◌, zero-add, List, [], ◌∷◌, map, sum, refl, sym, ap, ◌∙◌}
 use Rattle.type_tree.specs.declared.tree.TExpr.{TExpr}
 use Rattle.type_tree.specs.declared.tree.Head.TheVariants as head
-use Rattle.type_tree.specs.Tree.{node}
 use Rattle.type_tree.specs.Positions.{positions_of, level_positions as positions_at}
 use Rattle.type_tree.proofs.TreeLemmas.{folded-node, folded-class_var, folded-method_var}
 use Rattle.il_model.specs.declared.written.WrittenName.{WrittenName}

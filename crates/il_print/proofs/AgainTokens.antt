@@ -1,22 +1,21 @@
 -- The tokens of a type in a text are alike those of the canonical text, and lexemes alike those of a type spell one too.
-use Rattle.std.proofs.Common.{◌≡◌, ℕ, zero, suc, ◌+◌, ◌<◌, ◌==◌, ◌&&◌, Bool, true, false, if◌then◌else◌, cond, List, [], ◌∷◌, ◌++◌, length, map, Option, Some, None, is_some, unwrap_or, refl, sym, ap, ◌∙◌, subst, codes, arith, Contains, bytes_eq, slice_get, position, lt-ltb, inl, inr, nat_lt}
-use Rattle.std.specs.List.{AllByRecursion, list_all, position_or_len}
-use Rattle.std.proofs.lemmas.Bool.{true≢false, cases_Bool, and_parts, or_parts, or_from}
+use Rattle.std.proofs.Common.{◌≡◌, ℕ, zero, suc, Bool, true, false, if◌then◌else◌, cond, List, [], ◌∷◌, ◌++◌, map, Option, Some, None, is_some, unwrap_or, refl, sym, ap, ◌∙◌, subst, codes, arith, bytes_eq, slice_get, position, lt-ltb, inl, inr}
+use Rattle.std.specs.List.{AllByRecursion, list_all}
+use Rattle.std.proofs.lemmas.Bool.{true≢false, cases_Bool, and_parts}
 use Rattle.std.proofs.lemmas.Slice.Eq.{bytes_eq-Decides}
 use Rattle.type_tree.specs.Printed.{class_name}
 use Rattle.il_text.specs.declared.token.TokenKind.{TokenKind}
 use Rattle.il_text.specs.declared.token.TokenKind.TheVariants as token
-use Rattle.il_text.specs.Spelling.{spells, is_variable, is_class_variable, is_method_variable, is_number, is_text, is_mark, is_word, is_led_by, is_run}
+use Rattle.il_text.specs.Spelling.{spells, is_variable, is_method_variable, is_number, is_text, is_mark}
 use Rattle.il_model.specs.declared.written.WrittenType.{WrittenType}
-use Rattle.il_model.specs.declared.written.WrittenType.TheVariants as w
 use Rattle.il_model.specs.Lexemes.{Lexeme, Is, IsName, name_at, is_among}
-use Rattle.il_model.specs.Words.{type_words, type_keywords, quoted_words}
+use Rattle.il_model.specs.Words.{type_words, type_keywords}
 use Rattle.il_model.specs.Spellings.{plain_name}
 use Rattle.il_model.specs.Types.{IsType, keyword, variable, named, applied, vector, AreTypes, last_type, next_type}
 use Rattle.il_model.specs.Names.{Scope, Each, end, both, class_number}
 use Rattle.il_model.specs.Canonical.{Word, long_names}
-use Rattle.il_print.proofs.Keys.{Key, key_of, quoted, kind_of, name_key, variable_key, keys_between, angled_keys}
-use Rattle.il_print.proofs.AgainScopes.{ArePlain, IsFair, AreQuoted, none_quoted, class_found}
+use Rattle.il_print.proofs.Keys.{Key, quoted, kind_of, name_key, variable_key, keys_between}
+use Rattle.il_print.proofs.AgainScopes.{ArePlain, class_found}
 use Rattle.il_print.proofs.AgainMembers.{AreGenuine, genuine_front, genuine_back, genuine_rest}
 use Rattle.il_print.proofs.AgainInstrs.{all_contained}
 use Rattle.il_print.proofs.AgainAlike.{is_no_mark, IsAlike, alike_same, alike_object, alike_string, alike_variable, number_of, variable_text, named_keys, written_keys, is_found, keys-int32, keys-int64, keys-bool, keys-object, keys-string, keys-variable, keys-named, keys-vector, found-named, found-vector}
@@ -69,9 +68,9 @@ first_place : (names rest : List Word) (name : List ℕ) (number : ℕ) → name
     class_number names name ≡ Some number → number ≡ 0
 first_place names rest name number begins plain e =
     let at : class_number names name ≡ Some 0 =
-        ap (λ ns. class_number ns name) begins
-        ∙ ap (λ x. position (λ known. bytes_eq x known) (map plain_name (codes "object" ∷ codes "string" ∷ rest))) plain
-        ∙ ap (λ b. cond b (Some 0) None) (lt-ltb 0 _ (omega arith))
+    ap (λ ns. class_number ns name) begins
+    ∙ ap (λ x. position (λ known. bytes_eq x known) (map plain_name (codes "object" ∷ codes "string" ∷ rest))) plain
+    ∙ ap (λ b. cond b (Some 0) None) (lt-ltb 0 _ (omega arith))
     in
     ap (λ o. unwrap_or o number) (sym e ∙ at)
 
@@ -79,9 +78,9 @@ second_place : (names rest : List Word) (name : List ℕ) (number : ℕ) → nam
     class_number names name ≡ Some number → number ≡ 1
 second_place names rest name number begins plain e =
     let at : class_number names name ≡ Some 1 =
-        ap (λ ns. class_number ns name) begins
-        ∙ ap (λ x. position (λ known. bytes_eq x known) (map plain_name (codes "object" ∷ codes "string" ∷ rest))) plain
-        ∙ ap (λ b. cond b (Some 1) None) (lt-ltb 1 _ (omega arith))
+    ap (λ ns. class_number ns name) begins
+    ∙ ap (λ x. position (λ known. bytes_eq x known) (map plain_name (codes "object" ∷ codes "string" ∷ rest))) plain
+    ∙ ap (λ b. cond b (Some 1) None) (lt-ltb 1 _ (omega arith))
     in
     ap (λ o. unwrap_or o number) (sym e ∙ at)
 

@@ -1,21 +1,20 @@
 -- Types of a canonical text: they are written so, and stand for the types that were printed.
-use Rattle.std.proofs.Common.{◌≡◌, false, ℕ, zero, suc, ◌+◌, ◌<◌, ◌^◌, List, [], ◌∷◌, ◌++◌, length, map, Option, Some, None, refl, sym, ap, ◌∙◌, subst, codes, decimal, slice_get, unwrap_or, Contains, append_assoc, append-nil, arith}
+use Rattle.std.proofs.Common.{◌≡◌, false, ℕ, zero, suc, ◌<◌, ◌^◌, List, [], ◌∷◌, ◌++◌, map, Some, refl, sym, ap, ◌∙◌, subst, codes, decimal, slice_get, unwrap_or, Contains, append-nil, arith}
 use Rattle.type_tree.specs.declared.tree.TExpr.{TExpr}
 use Rattle.type_tree.specs.declared.tree.Head.{Head}
 use Rattle.type_tree.specs.declared.tree.Head.TheVariants as head
-use Rattle.type_tree.specs.declared.tree.TNode.TheVariants.{Node, ClassVar, MethodVar}
-use Rattle.type_tree.specs.Tree.{node, class_var, method_var}
+use Rattle.type_tree.specs.declared.tree.TNode.TheVariants.{Node}
+use Rattle.type_tree.specs.Tree.{node}
 use Rattle.type_tree.specs.Printed.{class_name}
 use Rattle.type_tree.proofs.TreeLemmas.{folded-node, folded-class_var, folded-method_var}
-use Rattle.il_text.specs.declared.token.TokenKind.TheVariants as token
 use Rattle.il_model.specs.declared.written.WrittenType.{WrittenType}
 use Rattle.il_model.specs.declared.written.WrittenType.TheVariants as w
-use Rattle.il_model.specs.Lexemes.{Lexeme, Is, name_at, is_among}
+use Rattle.il_model.specs.Lexemes.{Lexeme, name_at, is_among}
 use Rattle.il_model.specs.Words.{type_words, type_keywords, quoted_words}
 use Rattle.il_model.specs.Types.{IsType, keyword, variable, named, applied, vector, AreTypes, last_type, next_type}
 use Rattle.il_model.specs.Names.{Scope, IsVariable, class_number, NamesType, int32, int64, bool, object, string, class_variable, method_variable, class, vector as of_elements, NamesTypes, no_types, more_types}
 use Rattle.il_model.specs.Canonical.{Word, long_names}
-use Rattle.il_print.proofs.Keys.{Key, key_of, quoted, name_key, variable_key, keys_between, angled_keys, level_keys, type_keys}
+use Rattle.il_print.proofs.Keys.{Key, key_of, quoted, name_key, variable_key, keys_between, level_keys, type_keys}
 use Rattle.il_print.proofs.NumberTokens.{decimal_run, decimal_value}
 use Rattle.il_print.proofs.AgainKeys.{keys_first, keys_split, keys_one, keys_none, is_quoted, is_name}
 use Rattle.il_print.proofs.AgainScopes.{IsFair, AreQuoted, none_quoted, class_found, same_class, long_name}
@@ -64,7 +63,7 @@ by_variable : (words : List Word) (s : Scope) (ls : List Lexeme) (t : TExpr) (ma
 by_variable words s ls t mark n e low names =
     let one = keys_one ls (variable_key (mark ++ decimal n)) e in
     let is : IsVariable mark one.lexeme.bytes n =
-        record { digits = decimal n; spelled = ap (λ k. k.bytes) one.is; are_digits = decimal_run n; gives = decimal_value n low }
+    record { digits = decimal n; spelled = ap (λ k. k.bytes) one.is; are_digits = decimal_run n; gives = decimal_value n low }
     in
     record {
       type = w.Variable (name_at one.lexeme);
@@ -115,21 +114,21 @@ by_arguments s t first rest name number fair found has_first has_rest f words ar
     let own = class_name (long_names s.names) number in
     let inside = keys_between (codes ",") (map (type_keys s.names) (first ∷ rest)) in
     let whole : map key_of ls ≡ name_key own ∷ quoted (codes "<") ∷ inside ++ quoted (codes ">") ∷ [] =
-        e ∙ ap (type_keys s.names) f ∙ node_keys s.names (head.Class number) (first ∷ rest)
+    e ∙ ap (type_keys s.names) f ∙ node_keys s.names (head.Class number) (first ∷ rest)
     in
     let l = keys_first ls (name_key own) _ whole in
     let left = keys_first l.rest (quoted (codes "<")) _ l.are in
     let split = keys_split left.rest inside (quoted (codes ">") ∷ []) left.are in
     let right = keys_one split.back (quoted (codes ">")) split.second in
     let parts = keys_split split.front (type_keys s.names first) (keys_after (codes ",") (map (type_keys s.names) rest))
-        (split.first ∙ between-after (codes ",") (type_keys s.names first) (map (type_keys s.names) rest))
+    (split.first ∙ between-after (codes ",") (type_keys s.names first) (map (type_keys s.names) rest))
     in
     let a = has_first [] refl parts.front parts.first in
     let b = has_rest (codes ",") parts.back parts.second in
     let at : l.lexeme.bytes ≡ own = ap (λ k. k.bytes) l.is in
     let type = w.Named (name_at l.lexeme) (a.type ∷ b.types) in
     let spelled : ls ≡ l.lexeme ∷ left.lexeme ∷ split.front ++ right.lexeme ∷ [] =
-        l.split ∙ ap (λ z. l.lexeme ∷ z) (left.split ∙ ap (λ z. left.lexeme ∷ z) (split.split ∙ ap (λ z. split.front ++ z) right.split))
+    l.split ∙ ap (λ z. l.lexeme ∷ z) (left.split ∙ ap (λ z. left.lexeme ∷ z) (split.split ∙ ap (λ z. split.front ++ z) right.split))
     in
     record {
       type = type;

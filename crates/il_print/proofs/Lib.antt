@@ -35,8 +35,10 @@ pub mod AgainInstrs
 pub mod AgainAlike
 pub mod AgainTokens
 pub mod AgainRefs
+pub mod AgainLikes
 pub mod AgainCalls
 pub mod AgainBodies
 pub mod AgainMethods
 pub mod AgainBases
+pub mod AgainHeads
 pub mod AgainClasses
