@@ -6,6 +6,7 @@ pub mod NamedValues
 pub mod Fitting
 pub mod Claims
 pub mod Reading
+pub mod Turns
 pub mod SpelledLaws
 pub mod PlaceLaws
 pub mod GrowthLaws

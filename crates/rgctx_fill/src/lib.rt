@@ -3,14 +3,18 @@
 
 mod applying;
 mod beginning;
+mod fill;
 pub mod laws;
 mod reading;
 mod rule;
 mod spelled;
+mod stage;
 mod templating;
 #[cfg(test)]
 mod tests;
 
 pub use beginning::opening_words;
+pub use fill::Fill;
 pub use rule::Fits;
+pub use stage::{FillNext, FillStep, NodeStep, Region, Stage};
 pub use spelled::{NodeTemplate, NodeTree};
