@@ -39,6 +39,17 @@ pub record IsFill (f : FillData) : Type 0 where
   pub small : f.base < 2 ^ 63
   pub stands : IsAt f f.stage
 
+-- the next turn has a place to scan
+abbrev pub HasPlace : Stage → Type 0
+HasPlace (stage.Node place) = place < node_count
+HasPlace (stage.NodeClaim place) = Unit {0}
+HasPlace (stage.Link depth row) = Unit {0}
+HasPlace (stage.Row depth row place) = place < row_count
+HasPlace (stage.RowClaim depth row place) = Unit {0}
+HasPlace (stage.Tie depth row found) = Unit {0}
+HasPlace (stage.Entry row) = Unit {0}
+HasPlace (stage.Done value) = Unit {0}
+
 -- ---- what is looked for
 
 -- the number of the node found for a place, counted from 1; 0 for none
@@ -101,7 +112,10 @@ first_stage steps found = if nat_lt found (length steps) then stage.Node 1 else 
 
 abbrev pub with_node : FillData → ℕ → FillData
 with_node f number = record {
-  node = f.node; entry = f.entry; base = f.base; steps = f.steps;
+  node = f.node;
+  entry = f.entry;
+  base = f.base;
+  steps = f.steps;
   found = f.found ++ number ∷ [];
   stage = first_stage f.steps (length f.found + 1);
 }

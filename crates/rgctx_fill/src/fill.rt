@@ -1,11 +1,14 @@
 // A fill under way, and what its next turn does.
-ghost use Rattle.std.specs.Prelude.{◌≡◌, ◌≤◌, ◌<◌, Some};
-ghost use Rattle.rgctx_words.specs.Regions.{row_count};
+ghost use Rattle.std.specs.Prelude.{◌≡◌, ◌≤◌, ◌<◌, Some, length};
+ghost use Rattle.rgctx_words.specs.Regions.{node_count, row_count};
 ghost use Rattle.rgctx_words.specs.Places.{depth_of};
-ghost use Rattle.rgctx_fill.specs.Turns.{IsFill, node_for, word_for, node_key, row_key, link_index, value_of, next_of};
+ghost use Rattle.rgctx_fill.specs.declared.stage.Stage.TheVariants as stage;
+ghost use Rattle.rgctx_fill.specs.Turns.{IsFill, IsAt, HasPlace, node_for, word_for, node_key, row_key, link_index, value_of, next_of, with_stage, with_node, at_row, row_or_first, taken_at, taken};
 
 use crate::stage::{FillNext, NodeStep, Region, Stage};
-use rgctx_words::{ContextPlace, DirectoryWord, NODES, NodeWord, ROWS, row_address, slot_of};
+use rgctx_words::{
+    ContextPlace, DirectoryWord, NODES, NodeWord, ROWS, depth_of, row_address, row_at, slot_of,
+};
 use std::marker::Model;
 
 /// A fill of one entry of a node, under way: the nodes that the value needs, those of them that are found, and where
@@ -21,13 +24,14 @@ pub struct Fill {
 }
 
 impl Model for Fill {
+    ghost use Rattle.std.specs.Prelude.{◌≤◌, vec_len, vec_capacity};
     ghost use Rattle.rgctx_fill.specs.Turns.{FillData, IsFill};
 
     ghost Value = { FillData };
 
     ghost view = { λ f. record { node = f.node; entry = f.entry; base = f.base; steps = f.steps.items; found = f.found.items; stage = f.stage } };
 
-    ghost invariant = { λ f. IsFill (record { node = f.node; entry = f.entry; base = f.base; steps = f.steps.items; found = f.found.items; stage = f.stage }) };
+    ghost invariant = { λ f. IsFill (record { node = f.node; entry = f.entry; base = f.base; steps = f.steps.items; found = f.found.items; stage = f.stage }) × (vec_len f.steps ≤ vec_capacity f.found) };
 }
 
 impl Fill {
@@ -66,6 +70,125 @@ impl Fill {
             ),
             Stage::Done(_) => FillNext::Nothing,
         }
+    }
+
+    // Takes the answer to the next turn.
+    fn take(&mut self, answer: u64)
+        requires { HasPlace self.old.stage }
+        ensures { self.new ≡ taken self.old answer }
+    {
+        match self.stage {
+            Stage::Node(place) => self.take_node(place, answer),
+            Stage::NodeClaim(place) => self.take_claim(place, answer),
+            Stage::Link(depth, row) => self.take_link(depth, row, answer),
+            Stage::Row(depth, row, place) => self.take_row(depth, row, place, answer),
+            Stage::RowClaim(depth, row, place) => self.take_row_claim(depth, row, place, answer),
+            Stage::Tie(depth, _, found) => self.stand_at_row(depth, found),
+            Stage::Entry(_) => {
+                let value = if answer == 0 { self.value() } else { answer };
+                self.stand(Stage::Done(value));
+            }
+            Stage::Done(_) => {}
+        }
+    }
+
+    // The word of a node was loaded.
+    fn take_node(&mut self, place: u16, answer: u64)
+        requires at { IsAt self.old (stage.Node place) }
+        requires low { place < node_count }
+        ensures { self.new ≡ taken_at self.old (stage.Node place) answer }
+    {
+        if answer == self.node_key() {
+            self.put_node(place);
+        } else if answer == 0 {
+            self.stand(Stage::NodeClaim(place));
+        } else {
+            self.stand(Stage::Node(place + 1));
+        }
+    }
+
+    // The word of a node was claimed.
+    fn take_claim(&mut self, place: u16, answer: u64)
+        requires { IsAt self.old (stage.NodeClaim place) }
+        ensures { self.new ≡ taken_at self.old (stage.NodeClaim place) answer }
+    {
+        if answer == 0 || answer == self.node_key() {
+            self.put_node(place);
+        } else {
+            self.stand(Stage::Node(place + 1));
+        }
+    }
+
+    // A root or link was loaded.
+    fn take_link(&mut self, depth: u16, row: u16, answer: u64)
+        requires { IsAt self.old (stage.Link depth row) }
+        ensures { self.new ≡ taken_at self.old (stage.Link depth row) answer }
+    {
+        if answer == 0 {
+            self.stand(Stage::Row(depth, row, 0));
+        } else {
+            self.stand_at_row(depth, row_or_first(row_at(answer)));
+        }
+    }
+
+    // A directory word was loaded.
+    fn take_row(&mut self, depth: u16, row: u16, place: u16, answer: u64)
+        requires at { IsAt self.old (stage.Row depth row place) }
+        requires low { place < row_count }
+        ensures { self.new ≡ taken_at self.old (stage.Row depth row place) answer }
+    {
+        if answer == self.row_key(depth) {
+            self.stand(Stage::Tie(depth, row, place));
+        } else if answer == 0 {
+            self.stand(Stage::RowClaim(depth, row, place));
+        } else {
+            self.stand(Stage::Row(depth, row, place + 1));
+        }
+    }
+
+    // A directory word was claimed.
+    fn take_row_claim(&mut self, depth: u16, row: u16, place: u16, answer: u64)
+        requires { IsAt self.old (stage.RowClaim depth row place) }
+        ensures { self.new ≡ taken_at self.old (stage.RowClaim depth row place) answer }
+    {
+        if answer == 0 || answer == self.row_key(depth) {
+            self.stand(Stage::Tie(depth, row, place));
+        } else {
+            self.stand(Stage::Row(depth, row, place + 1));
+        }
+    }
+
+    // The row of a depth is known.
+    fn stand_at_row(&mut self, depth: u16, row: u16)
+        requires depth { depth ≤ depth_of self.old.entry }
+        requires row { row < row_count }
+        ensures { self.new ≡ with_stage self.old (at_row self.old depth row) }
+    {
+        if depth == depth_of(self.entry) {
+            self.stand(Stage::Entry(row));
+        } else {
+            self.stand(Stage::Link(depth + 1, row));
+        }
+    }
+
+    fn stand(&mut self, stage: Stage)
+        requires { IsAt self.old stage }
+        ensures { self.new ≡ with_stage self.old stage }
+    {
+        self.stage = stage;
+    }
+
+    // The next node is found.
+    fn put_node(&mut self, number: u16)
+        requires { length self.old.found < length self.old.steps }
+        ensures { self.new ≡ with_node self.old number }
+    {
+        self.found.push_reserved(number);
+        self.stage = if self.found.len() < self.steps.len() {
+            Stage::Node(1)
+        } else {
+            Stage::Link(0, 0)
+        };
     }
 
     // The word of the next node.
@@ -107,6 +230,15 @@ impl Fill {
         ensures { result ≡ value_of self.now }
     {
         self.base + u64::from(node_for(self.found.as_slice(), self.found.len()))
+    }
+}
+
+fn row_or_first(row: Option<u16>) -> u16
+    ensures { result ≡ row_or_first row }
+{
+    match row {
+        Some(row) => row,
+        None => 0,
     }
 }
 

@@ -16,5 +16,5 @@ mod tests;
 pub use beginning::opening_words;
 pub use fill::Fill;
 pub use rule::Fits;
-pub use stage::{FillNext, FillStep, NodeStep, Region, Stage};
 pub use spelled::{NodeTemplate, NodeTree};
+pub use stage::{FillNext, FillStep, NodeStep, Region, Stage};
