@@ -9,5 +9,6 @@ pub mod Executed
 pub mod History
 pub mod Command
 pub mod FirstForm
+pub mod Places
 pub mod Written
 pub mod Headline

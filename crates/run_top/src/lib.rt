@@ -8,6 +8,7 @@ mod depth_tests;
 mod first;
 mod first_form;
 mod machine;
+mod places;
 mod record;
 mod refusal;
 mod run;

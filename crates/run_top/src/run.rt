@@ -16,7 +16,7 @@ use crate::first::{FirstOp, deepest_stack};
 use crate::machine::{Core, Gave, Mode};
 use crate::record::{RunRecord, Turn};
 use crate::turns::turn;
-use il_model::Program;
+use cil_verify::Verified;
 use interaction::What;
 use mn_outside::NoMemory;
 use std::alloc::{AllocError, Global};
@@ -128,7 +128,7 @@ fn run(alloc: Global, image: &[u32], words: usize, limit: u32) -> Result<Kept, N
 /// The only refusal is want of memory.
 pub(crate) fn run_program(
     alloc: Global,
-    program: Program,
+    program: Verified,
     ops: &[FirstOp],
     limit: u32,
 ) -> Result<RunRecord, NoMemory>

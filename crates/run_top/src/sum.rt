@@ -2,6 +2,7 @@
 use crate::first::{FirstOp, is_well_formed};
 use crate::record::Turn;
 use crate::run::run_program;
+use cil_verify::Verified;
 use il_model::Program;
 use interaction::What;
 use sqlite_items::Items;
@@ -66,12 +67,15 @@ const SUM: [FirstOp; 5] = [
 ];
 
 // What a run keeps as its program, which it doesn't look at.
-fn empty(alloc: Global) -> Program {
-    Program {
-        classes: Items::new(alloc),
-        methods: Items::new(alloc),
-        literals: Items::new(alloc),
-        main: 0,
+fn empty(alloc: Global) -> Verified {
+    Verified {
+        program: Program {
+            classes: Items::new(alloc),
+            methods: Items::new(alloc),
+            literals: Items::new(alloc),
+            main: 0,
+        },
+        states: Items::new(alloc),
     }
 }
 
