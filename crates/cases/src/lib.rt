@@ -1,0 +1,7 @@
+//! Tests of whole commands on whole texts.
+#![tactic(auto)]
+
+#[cfg(test)]
+mod checked;
+#[cfg(test)]
+mod verifying;
