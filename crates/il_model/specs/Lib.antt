@@ -19,6 +19,7 @@ pub mod Bounds
 pub mod LookUp
 pub mod Canonical
 pub mod Accepted
+pub mod WellFormed
 pub mod Trees
 pub mod Bases
 pub mod Interfaces
@@ -28,4 +29,3 @@ pub mod Slots
 pub mod Assignable
 pub mod Admission
 pub mod ClassRules
-pub mod Methods

@@ -10,6 +10,6 @@ pub mod Clauses
 mod SpelledLemmas
 mod PutLemmas
 mod RefuseLemmas
-mod FormLemmas
-pub mod Deepest
+pub mod FirstLemmas
+pub mod SmallNumbers
 mod TextLemmas

@@ -1,4 +1,4 @@
-pub mod WellFormed
+pub mod FirstWords
 pub mod Values
 pub mod Process
 pub mod Code
@@ -9,6 +9,5 @@ pub mod Executed
 pub mod History
 pub mod Command
 pub mod FirstForm
-pub mod Places
 pub mod Written
 pub mod Headline

@@ -10,9 +10,3 @@ pub mod SearchLemmas
 pub mod DefinitionLemmas
 pub mod SignatureLemmas
 pub mod NumberingLemmas
-pub mod SizingLemmas
-pub mod OpeningLemmas
-pub mod AdmissionLemmas
-pub mod LayingLemmas
-pub mod FedLemmas
-pub mod KnownLemmas

@@ -1,4 +1,0 @@
-// The readers and the leaves, on words written by hand.
-mod forgetful;
-mod leaves;
-mod readers;
