@@ -4,6 +4,8 @@
 mod cases;
 mod memory;
 mod requests;
+mod texts;
+mod types;
 
 use mn_outside::NoMemory;
 use std::alloc::{AllocError, Global};
@@ -49,6 +51,13 @@ fn store_line(alloc: Global, count: u32) -> Result<String, AllocError> {
     }
 }
 
+fn types_line(alloc: Global, levels: u32, rounds: u32) -> Result<String, AllocError> {
+    match types::wide_of(alloc, levels, rounds) {
+        Ok(wide) => format!(in alloc; "{wide} too wide"),
+        Err(NoMemory) => String::from_str(alloc, "no memory"),
+    }
+}
+
 fn main(rt: HostRuntime) -> io::Result<()> {
     let alloc = rt.alloc();
     let words = words(&rt)?;
@@ -60,17 +69,25 @@ fn main(rt: HostRuntime) -> io::Result<()> {
     if case == "tokens" {
         let line = tokens_line(alloc, first, number(words.as_slice(), 2))?;
         println!(rt; "{line}")?;
+    } else if case == "parse" {
+        let line = texts::parse_line(alloc, first, number(words.as_slice(), 2))?;
+        println!(rt; "{line}")?;
     } else if case == "steps" {
         let line = steps_line(alloc, first)?;
         println!(rt; "{line}")?;
     } else if case == "store" {
         let line = store_line(alloc, first)?;
         println!(rt; "{line}")?;
+    } else if case == "types" {
+        let line = types_line(alloc, first, number(words.as_slice(), 2))?;
+        println!(rt; "{line}")?;
     } else {
         // Each case once, tiny.
         println!(rt; "{}", tokens_line(alloc, 640, 1)?)?;
         println!(rt; "{}", steps_line(alloc, 600)?)?;
         println!(rt; "{}", store_line(alloc, 800)?)?;
+        println!(rt; "{}", types_line(alloc, 5, 1)?)?;
+        println!(rt; "{}", texts::parse_line(alloc, 2, 1)?)?;
     }
     Ok(())
 }

@@ -12,7 +12,7 @@ use Rattle.il_model.specs.Found.{own_method, method_found}
 use Rattle.il_model.specs.Library.{plain}
 use Rattle.il_model.specs.Admission.{limit_of, steps_of, is_large, is_wide}
 use Rattle.interaction.specs.Process.{rests, begins, settles, asks}
-use Rattle.cil_meaning.specs.Mentions.{worst, limit_of_method}
+use Rattle.il_model.specs.Methods.{worst, limit_of_method}
 use Rattle.cil_meaning.specs.SmallPrograms.{Means}
 use Rattle.cil_meaning.specs.TypedPrograms.{classes_named, show, calls, calls_history}
 use Rattle.cil_meaning.proofs.PlainTypes.{class_plain, positions_plain, substituted_plain, steps_plain, steps_root, none_root, none_above, large_plain, wide_plain, admitted_plain}

@@ -13,7 +13,7 @@ none_broken [] program number d c broken all = broken
 none_broken (r ∷ rules) program number d c (inl broken) all = broken.0 all.0
 none_broken (r ∷ rules) program number d c (inr broken) all = none_broken rules program number d c broken.1 all.1
 
-some_is_not_none : {A : Type 0} (o : Option A) (x : A) → o ≡ Some x → o ≡ None → ⊥
+pub some_is_not_none : {A : Type 0} (o : Option A) (x : A) → o ≡ Some x → o ≡ None → ⊥
 some_is_not_none o x some none = true≢false (sym (ap is_some some) ∙ ap is_some none)
 
 pub refused_is_not_good : (program : Program) (number : ℕ) (m : MethodDef) (f : VerifyFault) → IsRefusedMethod program number m f → IsGoodMethod program number m → ⊥

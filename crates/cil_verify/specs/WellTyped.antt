@@ -15,6 +15,7 @@ use Rattle.il_model.specs.Bases.{own_of}
 use Rattle.il_model.specs.Slots.{is_interface_class}
 use Rattle.il_model.specs.Admission.{limit_of}
 use Rattle.il_model.specs.Entries.{template_of}
+use Rattle.il_model.specs.Methods.{types_of_places}
 use Rattle.il_model.specs.ClassRules.{HasHierarchy, HasLayout, HasBounds, HasImplementations, HasFewSlots, meets_bounds, bounds_written, has_counts, is_abstract_shape}
 use Rattle.cil_flow.specs.declared.state.StackType.{StackType}
 use Rattle.cil_flow.specs.declared.fault.FlowFault.{FlowFault}
@@ -46,14 +47,6 @@ has_its_body m = if is_abstract_shape m.shape then is_none m.body else has_instr
 -- in an interface every method is abstract
 abbrev pub suits_class : Program → MethodDef → Bool
 suits_class program m = not (is_interface_class (slice_get program.classes m.owner)) || is_abstract_shape m.shape
-
-abbrev pub type_of_place : PType → List TExpr
-type_of_place (ptype.Value t) = t ∷ []
-type_of_place (ptype.Pointer t) = t ∷ []
-type_of_place ptype.Native = []
-
-abbrev pub types_of_places : List PType → List TExpr
-types_of_places places = flat_map type_of_place places
 
 -- a type with a wrong number of arguments is passed over here, and refused for its bounds
 abbrev pub is_not_refused : Program → TExpr → Bool

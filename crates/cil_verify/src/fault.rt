@@ -9,8 +9,10 @@ pub enum Where {
 }
 
 /// The causes, in the order in which they are judged at one place but for `BadMember`, which comes first at an instruction.
+/// `NotBuilt` is judged of the whole program before all others.
 #[derive(Clone, Copy, Debug, PartialEq, Eq)]
 pub enum VerifyCause {
+    NotBuilt,
     BadHierarchy,
     BadLayout,
     BadConstraint,
@@ -30,5 +32,12 @@ pub enum VerifyCause {
 #[derive(Clone, Copy, Debug, PartialEq, Eq)]
 pub struct VerifyFault {
     pub at: Where,
+    pub cause: VerifyCause,
+}
+
+/// The first instruction of a body that is refused, by its number from 0.
+#[derive(Clone, Copy, Debug, PartialEq, Eq)]
+pub struct BodyFault {
+    pub instr: u32,
     pub cause: VerifyCause,
 }

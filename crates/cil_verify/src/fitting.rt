@@ -87,7 +87,7 @@ fn is_box_assignable(
 }
 
 // Whether the type is `object`.
-fn is_object_class(alloc: Global, kind: &TExpr) -> bool
+pub(crate) fn is_object_class(alloc: Global, kind: &TExpr) -> bool
     ensures { result ≡ is_object kind.now }
 {
     let object = TExpr::plain(alloc, Head::Class(0));
@@ -110,7 +110,7 @@ pub(crate) fn bounds_of<'a>(
 }
 
 // The variables of a method's class.
-fn class_vars<'a>(program: &'a Program, method: &MethodDef) -> &'a [VarDef]
+pub(crate) fn class_vars<'a>(program: &'a Program, method: &MethodDef) -> &'a [VarDef]
     ensures { result.now ≡ vars_in (slice_get program.now.classes method.now.owner) }
 {
     match program.classes.as_slice().get(method.owner as usize) {
@@ -119,7 +119,7 @@ fn class_vars<'a>(program: &'a Program, method: &MethodDef) -> &'a [VarDef]
     }
 }
 
-fn bounds_in(var: Option<&VarDef>) -> &[TExpr]
+pub(crate) fn bounds_in(var: Option<&VarDef>) -> &[TExpr]
     ensures { result.now ≡ bounds_in (option_copied var.entry) }
 {
     match var {

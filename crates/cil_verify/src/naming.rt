@@ -57,7 +57,7 @@ pub(crate) fn called<'a>(program: &'a Program, named: &MRef) -> Option<&'a Metho
 }
 
 // The fields of the class that a type names.
-fn fields_of<'a>(program: &'a Program, kind: &TExpr) -> &'a [FieldDef]
+pub(crate) fn fields_of<'a>(program: &'a Program, kind: &TExpr) -> &'a [FieldDef]
     ensures { result.now ≡ fields_in (class_of program.now kind.now) }
 {
     match class_of(program, kind) {
@@ -182,7 +182,7 @@ fn is_instance(shape: Shape) -> bool
     }
 }
 
-fn takes_object(shape: Shape) -> bool
+pub(crate) fn takes_object(shape: Shape) -> bool
     ensures { result ≡ takes_object shape }
 {
     match shape {

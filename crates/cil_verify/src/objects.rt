@@ -75,7 +75,7 @@ pub(crate) fn is_struct(program: &Program, kind: &TExpr) -> bool
     }
 }
 
-fn is_struct_kind(kind: ClassKind) -> bool
+pub(crate) fn is_struct_kind(kind: ClassKind) -> bool
     ensures { result ≡ is_struct_kind kind }
 {
     match kind {

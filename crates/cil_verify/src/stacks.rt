@@ -60,7 +60,7 @@ pub fn joined_stacks(
 }
 
 // Puts what stands in a place at the end of a list.
-fn put(all: &mut Items<StackType>, kind: StackType) -> Result<(), NoMemory>
+pub(crate) fn put(all: &mut Items<StackType>, kind: StackType) -> Result<(), NoMemory>
     ensures { OnOk result (all.new ≡ all.old ++ kind ∷ []) }
 {
     all.push(kind).map_err(|_| NoMemory)

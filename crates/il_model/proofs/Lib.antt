@@ -1,7 +1,6 @@
 pub mod FindLemmas
 pub mod NamesLemmas
 pub mod Sample
-pub mod Deepest
 pub mod SampleNames
 pub mod CanonicalLemmas
 pub mod TreesLemmas

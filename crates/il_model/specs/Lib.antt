@@ -19,7 +19,6 @@ pub mod Bounds
 pub mod LookUp
 pub mod Canonical
 pub mod Accepted
-pub mod WellFormed
 pub mod Trees
 pub mod Bases
 pub mod Interfaces
@@ -29,3 +28,4 @@ pub mod Slots
 pub mod Assignable
 pub mod Admission
 pub mod ClassRules
+pub mod Methods

@@ -6,7 +6,6 @@ mod entry;
 mod find;
 #[cfg(test)]
 mod finding_tests;
-mod first;
 mod form;
 mod front;
 mod key;
@@ -16,14 +15,11 @@ mod method;
 mod names;
 mod op;
 mod program;
-#[cfg(test)]
-mod tests;
 mod written;
 
 pub use class::{ClassDef, ClassKind, FieldDef, VarDef};
 pub use entry::{Def, Entry};
 pub use find::{class_of, find_field, find_method, same_params, same_result};
-pub use first::{FirstOp, FirstProgram};
 pub use form::Form;
 pub use key::{BodyRow, Key, KeyPart};
 pub use layout::{Layout, Limit, MethodTree};

@@ -117,7 +117,7 @@ clause_sound ws c back e =
       });
     }))))))))))
 
-flat-catches : (cs : List WrittenClause) → flat_map type_of_clause cs ≡ map (λ c. c.catches) cs
+pub flat-catches : (cs : List WrittenClause) → flat_map type_of_clause cs ≡ map (λ c. c.catches) cs
 flat-catches [] = refl
 flat-catches (c ∷ cs) = ap (λ ts. c.catches ∷ ts) (flat-catches cs)
 

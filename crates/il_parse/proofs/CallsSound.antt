@@ -43,7 +43,7 @@ pub same_itself : (a : List (List ℕ)) → same_words a a ≡ true
 same_itself [] = refl
 same_itself (x ∷ a) = and_from (bytes_eq x x) (same_words a a) ((bytes_eq-Decides x x).1 refl) (same_itself a)
 
-whole_call_is : (words : List (List ℕ)) (f : FormWord) → is_whole_call words f ≡ true → f ≡ library_call words []
+pub whole_call_is : (words : List (List ℕ)) (f : FormWord) → is_whole_call words f ≡ true → f ≡ library_call words []
 whole_call_is words (word s) e = absurd (true≢false (sym e))
 whole_call_is words (library_call first []) e = ap (λ z. library_call z []) (words_same first words e)
 whole_call_is words (library_call first (l ∷ ls)) e = absurd (true≢false (sym e))
@@ -77,7 +77,7 @@ nothing_kind method_operand e = absurd (true≢false (sym e))
 nothing_kind field_operand e = absurd (true≢false (sym e))
 nothing_kind constrained_method e = absurd (true≢false (sym e))
 
-abbrev has_no_end : FormWord → Bool
+abbrev pub has_no_end : FormWord → Bool
 has_no_end (word s) = false
 has_no_end (library_call first []) = true
 has_no_end (library_call first (l ∷ ls)) = false
@@ -95,7 +95,7 @@ plain_call_nothing : (f : Form) (words : List (List ℕ)) → plain_call f ≡ t
 unfolding plain_call
 plain_call_nothing f words p e = nothing_kind (operand_kind f) (ap (λ z. not (has_no_end z) || takes_nothing (operand_kind f)) (sym e) ∙ p)
 
-whole_call_sound : (front : List Lexeme) (f : Form) → find (λ g. is_whole_call (plain_words front) (word_of g)) all_forms ≡ Some f → IsLibraryCall front f operand.Nothing
+pub whole_call_sound : (front : List Lexeme) (f : Form) → find (λ g. is_whole_call (plain_words front) (word_of g)) all_forms ≡ Some f → IsLibraryCall front f operand.Nothing
 whole_call_sound front f e =
     let hit = found_in (λ g. is_whole_call (plain_words front) (word_of g)) all_forms f e in
     let spelled = whole_call_is (plain_words front) (word_of f) hit.1 in
@@ -200,7 +200,7 @@ plain_of : (l : Lexeme) (s : List ℕ) → Is s l → plain_name s ≡ s → pla
 plain_of l s same e = ap plain_name same ∙ e
 
 -- `NameOf` of a type
-name_of_sound : (front : List Lexeme) (m : WrittenMethodRef) (t : WrittenType) → AreSpelled front → read_method_ref front ≡ Ok (m, []) →
+pub name_of_sound : (front : List Lexeme) (m : WrittenMethodRef) (t : WrittenType) → AreSpelled front → read_method_ref front ≡ Ok (m, []) →
     begin_with (words_before (word_of form.NameOf)) (plain_words front) ≡ true → only_argument m.args m.params ≡ Some t → IsLibraryCall front form.NameOf (operand.Type t)
 name_of_sound front m t s e begins only =
     let f = five_of front begins in
@@ -242,10 +242,10 @@ is_type_kind method_operand = false
 is_type_kind field_operand = false
 is_type_kind constrained_method = false
 
-abbrev name_words : List (List ℕ)
+abbrev pub name_words : List (List ℕ)
 name_words = codes "string" ∷ codes "Rt.Types" ∷ codes "::" ∷ codes "NameOf" ∷ codes "<" ∷ []
 
-abbrev name_end : List (List ℕ)
+abbrev pub name_end : List (List ℕ)
 name_end = codes ">" ∷ codes "(" ∷ codes ")" ∷ []
 
 abbrev is_name_word : FormWord → Bool
@@ -261,7 +261,7 @@ all_only_name : list_all only_name all_forms ≡ true
 unfolding only_name
 all_only_name = refl
 
-name_parts : (f : Form) (first last : List (List ℕ)) → operand_kind f ≡ type_operand → word_of f ≡ library_call first last → (first ≡ name_words) × (last ≡ name_end)
+pub name_parts : (f : Form) (first last : List (List ℕ)) → operand_kind f ≡ type_operand → word_of f ≡ library_call first last → (first ≡ name_words) × (last ≡ name_end)
 unfolding only_name
 name_parts f first last kind e =
     let p : only_name f ≡ true = every_form only_name f all_only_name in
@@ -288,26 +288,26 @@ no_end : (first last : List (List ℕ)) → ends_plainly (library_call first las
 no_end first [] e = refl
 no_end first (l ∷ ls) e = absurd (true≢false (sym e))
 
-plain_last : (f : Form) (first last : List (List ℕ)) → operand_kind f ≡ no_operand → word_of f ≡ library_call first last → last ≡ []
+pub plain_last : (f : Form) (first last : List (List ℕ)) → operand_kind f ≡ no_operand → word_of f ≡ library_call first last → last ≡ []
 unfolding plain_end
 plain_last f first last kind e =
     let p : plain_end f ≡ true = every_form plain_end f all_plain_ends in
     no_end first last (ap ends_plainly (sym e) ∙ ap (λ k. not (takes_nothing k) || ends_plainly (word_of f)) (sym kind) ∙ p)
 
-no_lexemes : (ws : List Lexeme) → plain_words ws ≡ [] → ws ≡ []
+pub no_lexemes : (ws : List Lexeme) → plain_words ws ≡ [] → ws ≡ []
 no_lexemes [] e = refl
 no_lexemes (l ∷ ws) e = absurd (omega (arith, ap length e))
 
 -- the words of `NameOf`, each a lexeme
-record NameLexemes (ws : List Lexeme) : Type 0 where
-  l0 : Lexeme
-  l1 : Lexeme
-  l2 : Lexeme
-  l3 : Lexeme
-  l4 : Lexeme
-  split : ws ≡ l0 ∷ l1 ∷ l2 ∷ l3 ∷ l4 ∷ []
+pub record NameLexemes (ws : List Lexeme) : Type 0 where
+  pub l0 : Lexeme
+  pub l1 : Lexeme
+  pub l2 : Lexeme
+  pub l3 : Lexeme
+  pub l4 : Lexeme
+  pub split : ws ≡ l0 ∷ l1 ∷ l2 ∷ l3 ∷ l4 ∷ []
 
-name_lexemes : (ws : List Lexeme) → plain_words ws ≡ name_words → NameLexemes ws
+pub name_lexemes : (ws : List Lexeme) → plain_words ws ≡ name_words → NameLexemes ws
 name_lexemes [] e = absurd (omega (arith, ap length e))
 name_lexemes (a ∷ []) e = absurd (omega (arith, ap length e))
 name_lexemes (a ∷ b ∷ []) e = absurd (omega (arith, ap length e))
@@ -316,24 +316,24 @@ name_lexemes (a ∷ b ∷ c ∷ d ∷ []) e = absurd (omega (arith, ap length e)
 name_lexemes (a ∷ b ∷ c ∷ d ∷ g ∷ []) e = record { l0 = a; l1 = b; l2 = c; l3 = d; l4 = g; split = refl }
 name_lexemes (a ∷ b ∷ c ∷ d ∷ g ∷ h ∷ ws) e = absurd (omega (arith, ap length e))
 
-record EndLexemes (ws : List Lexeme) : Type 0 where
-  g : Lexeme
-  left : Lexeme
-  right : Lexeme
-  split : ws ≡ g ∷ left ∷ right ∷ []
+pub record EndLexemes (ws : List Lexeme) : Type 0 where
+  pub g : Lexeme
+  pub left : Lexeme
+  pub right : Lexeme
+  pub split : ws ≡ g ∷ left ∷ right ∷ []
 
-end_lexemes : (ws : List Lexeme) → plain_words ws ≡ name_end → EndLexemes ws
+pub end_lexemes : (ws : List Lexeme) → plain_words ws ≡ name_end → EndLexemes ws
 end_lexemes [] e = absurd (omega (arith, ap length e))
 end_lexemes (a ∷ []) e = absurd (omega (arith, ap length e))
 end_lexemes (a ∷ b ∷ []) e = absurd (omega (arith, ap length e))
 end_lexemes (a ∷ b ∷ c ∷ []) e = record { g = a; left = b; right = c; split = refl }
 end_lexemes (a ∷ b ∷ c ∷ d ∷ ws) e = absurd (omega (arith, ap length e))
 
-words-append : (a b : List Lexeme) → plain_words (a ++ b) ≡ plain_words a ++ plain_words b
+pub words-append : (a b : List Lexeme) → plain_words (a ++ b) ≡ plain_words a ++ plain_words b
 words-append [] b = refl
 words-append (l ∷ a) b = ap (λ z. plain_name l.bytes ∷ z) (words-append a b)
 
-begins_itself : (a b : List (List ℕ)) → begin_with a (a ++ b) ≡ true
+pub begins_itself : (a b : List (List ℕ)) → begin_with a (a ++ b) ≡ true
 begins_itself [] b = refl
 begins_itself (x ∷ a) b = and_from (bytes_eq x x) (begin_with a (a ++ b)) ((bytes_eq-Decides x x).1 refl) (begins_itself a b)
 
@@ -365,7 +365,7 @@ only_by l4 inner g left2 right2 ts ps args left inside right t opens closes is s
     only_made ts ps t u.0 (no_list inside ps are (omega (arith, ap length u.1, length-append inside (right ∷ []))))
 
 -- where the words spell `NameOf` of a type, the method has that argument alone
-only_name_of : (front : List Lexeme) (m : WrittenMethodRef) (a inner b : List Lexeme) (t : WrittenType) → AreSpelled front → read_method_ref front ≡ Ok (m, []) →
+pub only_name_of : (front : List Lexeme) (m : WrittenMethodRef) (a inner b : List Lexeme) (t : WrittenType) → AreSpelled front → read_method_ref front ≡ Ok (m, []) →
     front ≡ a ++ inner ++ b → plain_words a ≡ name_words → IsType [] inner t → plain_words b ≡ name_end → only_argument m.args m.params ≡ Some t
 unfolding nth
 only_name_of front m a inner b t s e split words_a is words_b =
@@ -420,7 +420,7 @@ arg_small m t o small =
     let b = small-split (option_to_list m.result) (m.class ∷ m.args) a.0 in
     (subst AreSmall o.types b.1.1).0
 
-name_made : (o : Option WrittenType) (found : Form × WrittenOperand) → option_map (λ t. (form.NameOf, operand.Type t)) o ≡ Some found →
+pub name_made : (o : Option WrittenType) (found : Form × WrittenOperand) → option_map (λ t. (form.NameOf, operand.Type t)) o ≡ Some found →
     (t : WrittenType) × (o ≡ Some t) × ((form.NameOf, operand.Type t) ≡ found)
 name_made o found e = let d = made (λ t. (form.NameOf, operand.Type t)) o found e in (d.item, d.found, d.gives)
 
@@ -436,7 +436,7 @@ name_called front m s e small found name =
       | inr miss ↦ none_is found (ap (λ c. if c then option_map (λ u. (form.NameOf, operand.Type u)) (only_argument m.args m.params) else None) (sym miss) ∙ name)
     ]
 
-abbrev Found : Type 0
+abbrev pub Found : Type 0
 Found = Form × WrittenOperand
 
 -- the call of the library that is found is one, and where none is found there is none
@@ -453,7 +453,7 @@ take_front : (front mid : List Lexeme) → take (length front) (front ++ mid) �
 take_front [] mid = refl
 take_front (l ∷ front) mid = ap (λ z. l ∷ z) (take_front front mid)
 
-taken_is : (ws front mid : List Lexeme) → ws ≡ front ++ mid → taken ws mid ≡ front
+pub taken_is : (ws front mid : List Lexeme) → ws ≡ front ++ mid → taken ws mid ≡ front
 taken_is ws front mid split =
     ap (λ z. taken z mid) split ∙ ap (λ n. take n (front ++ mid)) (omega (arith, length-append front mid)) ∙ take_front front mid
 

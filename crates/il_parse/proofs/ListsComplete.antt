@@ -34,14 +34,14 @@ type_complete quoted front t back is small s ends =
     (type_goes most_positions quoted most_positions front t back is s ends.no_left small (omega arith) ∙ vectors-end t (256 - written_positions t) back ends.no_vector) refl
 
 -- a word with these bytes is not this mark or word
-sees-first : (m : List ℕ) (l : Lexeme) (ws : List Lexeme) → bytes_eq m l.bytes ≡ false → sees m (l ∷ ws) ≡ false
+pub sees-first : (m : List ℕ) (l : Lexeme) (ws : List Lexeme) → bytes_eq m l.bytes ≡ false → sees m (l ∷ ws) ≡ false
 unfolding sees
 sees-first m l ws miss = miss
 
 pub name_first : (m : List ℕ) (l : Lexeme) (ws : List Lexeme) → l.kind ≡ token.Word → spells l.kind l.bytes ≡ true → is_word m ≡ false → sees m (l ∷ ws) ≡ false
 name_first m l ws word s other = sees-first m l ws (no_mark m l word s other)
 
-not_equal : (m bytes : List ℕ) (p : List ℕ → Bool) → p bytes ≡ true → p m ≡ false → bytes_eq m bytes ≡ false
+pub not_equal : (m bytes : List ℕ) (p : List ℕ → Bool) → p bytes ≡ true → p m ≡ false → bytes_eq m bytes ≡ false
 not_equal m bytes p is other =
     elim (cases_Bool (bytes_eq m bytes)) [
       | inl hit ↦ absurd (true≢false (sym is ∙ ap p (sym ((bytes_eq-Decides m bytes).0 hit)) ∙ other))
@@ -69,14 +69,15 @@ among-append : (m : List ℕ) (xs ys : List (List ℕ)) → is_among ys m ≡ tr
 among-append m [] ys e = e
 among-append m (x ∷ xs) ys e = or_right (bytes_eq x m) (is_among (xs ++ ys) m) (among-append m xs ys e)
 
-quoted_apart : (m : List ℕ) (quoted : List (List ℕ)) (l : Lexeme) → is_among quoted m ≡ true → IsName (type_keywords ++ quoted) l → bytes_eq m l.bytes ≡ false
-quoted_apart m quoted l inside n =
-    elim (cases_Bool (bytes_eq m l.bytes)) [
-      | inl hit ↦
-          let is : is_among (type_keywords ++ quoted) m ≡ true = among-append m type_keywords quoted inside in
-          absurd (true≢false (sym is ∙ ap (is_among (type_keywords ++ quoted)) ((bytes_eq-Decides m l.bytes).0 hit) ∙ n.free))
+pub quoted_among : (m : List ℕ) (quoted : List (List ℕ)) (bytes : List ℕ) → is_among quoted m ≡ true → is_among quoted bytes ≡ false → bytes_eq m bytes ≡ false
+quoted_among m quoted bytes inside free =
+    elim (cases_Bool (bytes_eq m bytes)) [
+      | inl hit ↦ absurd (true≢false (sym inside ∙ ap (is_among quoted) ((bytes_eq-Decides m bytes).0 hit) ∙ free))
       | inr miss ↦ miss
     ]
+
+quoted_apart : (m : List ℕ) (quoted : List (List ℕ)) (l : Lexeme) → is_among quoted m ≡ true → IsName (type_keywords ++ quoted) l → bytes_eq m l.bytes ≡ false
+quoted_apart m quoted l inside n = quoted_among m (type_keywords ++ quoted) l.bytes (among-append m type_keywords quoted inside) n.free
 
 -- nor with a word that is quoted at its place, and is no type by itself
 pub type_unquoted : (m : List ℕ) → is_variable m ≡ false → AllByRecursion (λ (row : List ℕ × WrittenType). bytes_eq m row.0 ≡ false) type_words →

@@ -24,7 +24,7 @@ use Rattle.il_parse.proofs.TypesComplete.{sees-other, after-other, expect-is, ty
 use Rattle.il_parse.proofs.ListsComplete.{ends_at, type_complete}
 use Rattle.il_parse.proofs.PartsComplete.{result_complete, method_name_complete}
 
-word_only : (k : TokenKind) (bytes : List ℕ) → spells k bytes ≡ true → is_variable bytes ≡ false → is_number bytes ≡ false → is_text bytes ≡ false → is_mark bytes ≡ false → k ≡ token.Word
+pub word_only : (k : TokenKind) (bytes : List ℕ) → spells k bytes ≡ true → is_variable bytes ≡ false → is_number bytes ≡ false → is_text bytes ≡ false → is_mark bytes ≡ false → k ≡ token.Word
 word_only token.Word bytes s a b c d = refl
 word_only token.Variable bytes s a b c d = absurd (true≢false (sym s ∙ a))
 word_only token.Number bytes s a b c d = absurd (true≢false (sym s ∙ b))

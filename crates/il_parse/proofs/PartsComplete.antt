@@ -125,7 +125,7 @@ pub optional_sees : (m : List ℕ) (front : List Lexeme) (b : Bool) (back : List
 optional_sees m front b back not_written free = (free refl, after-other m back (free refl))
 optional_sees m front b back (present l same) free = (sees-is m l back same, after-is m l back same)
 
-result_first : (m : List ℕ) → is_variable m ≡ false → AllByRecursion (λ (row : List ℕ × WrittenType). bytes_eq m row.0 ≡ false) type_words → bytes_eq m (codes "void") ≡ false →
+pub result_first : (m : List ℕ) → is_variable m ≡ false → AllByRecursion (λ (row : List ℕ × WrittenType). bytes_eq m row.0 ≡ false) type_words → bytes_eq m (codes "void") ≡ false →
     (quoted : List (List ℕ)) → is_among quoted m ≡ true → (front : List Lexeme) (r : Option WrittenType) (back : List Lexeme) → IsResult quoted front r → AreSpelled front →
     sees m (front ++ back) ≡ false
 result_first m no_variable no_keyword no_void quoted inside front r back (void l same) s = sees-other m (codes "void") l back same no_void

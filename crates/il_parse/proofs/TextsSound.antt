@@ -10,7 +10,7 @@ use Rattle.il_parse.proofs.Steps.{AreSpelled}
 use Rattle.il_parse.proofs.ProgramsSound.{program_sound}
 use Rattle.il_parse.proofs.CallsSound.{calls_are_sound}
 
-tokens_spelled : (text : List ℕ) (at : ℕ) (tokens : List Token) → AreTokensFrom text at tokens → AreSpelled (lexemes_of text tokens)
+pub tokens_spelled : (text : List ℕ) (at : ℕ) (tokens : List Token) → AreTokensFrom text at tokens → AreSpelled (lexemes_of text tokens)
 tokens_spelled text at [] read = tt
 tokens_spelled text at (t ∷ ts) read = (read.0.spelled, tokens_spelled text t.to ts read.1)
 

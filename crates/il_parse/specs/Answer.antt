@@ -59,24 +59,41 @@ spots_of text classes =
     map (λ _. record { declared = library_spot; code = [] }) library_classes ++ map (spots_of_class text) classes ++
     map spots_of_library_method library_methods ++ map (spots_of_method text) (all_methods classes)
 
+-- that the canonical text is too long
+abbrev pub too_long : Fault
+too_long = record { at = None; cause = cause.Text TooLong }
+
 -- the canonical text of the program may have at most so many bytes; where it has more the end of the text is refused
 abbrev pub short_enough : Program → Look Program
-short_enough p = if nat_le (canonical_len p) 4194304 then Ok p else Err (record { at = None; cause = cause.Text TooLong })
+short_enough p = if nat_le (canonical_len p) 4194304 then Ok p else Err too_long
+
+-- the program that written classes stand for, if its canonical text is short enough
+abbrev pub short_program : List WrittenClass → Look Program
+short_program classes = program_named classes >>= short_enough
 
 abbrev pub answer_with : List ℕ → List WrittenClass → Look Program → Result Parsed ParseFault
 answer_with text classes (Ok p) = Ok (record { program = p; spots = spots_of text classes })
 answer_with text classes (Err fault) = Err (located text fault)
 
 abbrev pub answer_for : List ℕ → Look (List WrittenClass) → Result Parsed ParseFault
-answer_for text (Ok classes) = answer_with text classes (program_named classes >>= short_enough)
+answer_for text (Ok classes) = answer_with text classes (short_program classes)
 answer_for text (Err fault) = Err (located text fault)
 
 -- what a text with these tokens is: the first of syntax, names and length that refuses it names its first place
 unfoldable pub parsed : List ℕ → List Token → Result Parsed ParseFault
 parsed text tokens = answer_for text (read_program (lexemes_of text tokens))
 
+-- the place and the cause where a text has no tokens
+abbrev pub unreadable_at : List ℕ → TextFault → ParseFault
+unreadable_at text fault = record { spot = spot_of text fault.offset; cause = cause.Text fault.cause }
+
 -- what a text is: where it has no tokens, the fault of these comes first
 pub data Parses (text : List ℕ) : Result Parsed ParseFault → Type 0 where
   unreadable : (fault : TextFault) → fault_of text ≡ Some fault →
-      Parses text (Err (record { spot = spot_of text fault.offset; cause = cause.Text fault.cause }))
+      Parses text (Err (unreadable_at text fault))
   readable : (tokens : List Token) → AreTokens text tokens → Parses text (parsed text tokens)
+
+-- what the text is, and that it is nothing else
+pub record IsAnswer (text : List ℕ) (r : Result Parsed ParseFault) : Type 0 where
+  pub parses : Parses text r
+  pub only : (other : Result Parsed ParseFault) → Parses text other → other ≡ r

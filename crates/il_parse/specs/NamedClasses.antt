@@ -1,5 +1,5 @@
 -- What written classes stand for, and the program of all of them. This project's own.
-use Rattle.std.specs.Prelude.{ℕ, ◌+◌, ◌==◌, Bool, false, ◌&&◌, ◌||◌, is_some, if◌then◌else◌, List, [], ◌∷◌, ◌++◌, length, map, Option, Some, None, option_and_then, Ok, Err, bytes_eq}
+use Rattle.std.specs.Prelude.{ℕ, ◌+◌, Bool, false, ◌||◌, is_some, List, [], ◌∷◌, ◌++◌, length, map, Option, Some, None, option_and_then, Ok, Err}
 use Rattle.std.specs.List.{list_any}
 use Rattle.type_tree.specs.declared.tree.TExpr.{TExpr}
 use Rattle.il_model.specs.declared.class.ClassKind.{ClassKind}
@@ -22,23 +22,18 @@ use Rattle.il_model.specs.Names.{Scope}
 use Rattle.il_model.specs.Bounds.{all_methods}
 use Rattle.il_model.specs.LookUp.{Known, known_of, scope_of, numbers_from, entries_from}
 use Rattle.il_parse.specs.declared.fault.ParseCause.TheVariants as cause
-use Rattle.il_parse.specs.Looking.{Look, ◌>>=◌, pure, repeated, perhaps_of}
+pub use Rattle.il_parse.specs.declared.found.Found.{Found}
+pub use Rattle.il_parse.specs.declared.found.Gathered.{Gathered}
+pub use Rattle.il_parse.specs.Looking.{once}
+pub use Rattle.il_parse.specs.SameTypes.{has_signature}
+use Rattle.il_parse.specs.Looking.{Look, ◌>>=◌, pure, perhaps_of}
 use Rattle.il_parse.specs.NamedTypes.{type_named, types_named, result_named, params_named, vars_named}
 use Rattle.il_parse.specs.NamedBodies.{body_named}
-use Rattle.il_parse.specs.SameTypes.{same_result, same_params}
-
--- whether a method has this name, as many type variables, these parameters and this result
-abbrev pub has_signature : List ℕ → ℕ → List PType → Option TExpr → MethodDef → Bool
-has_signature name vars params result m =
-    bytes_eq name m.name && (vars == length m.vars) && same_params params m.params && same_result result m.result
 
 -- whether one of these methods has the signature; where the parameters have no types there is none to compare
 abbrev pub is_signature_met : List MethodDef → List ℕ → ℕ → Look (List PType) → Option TExpr → Bool
 is_signature_met met name vars (Ok params) result = list_any (has_signature name vars params result) met
 is_signature_met met name vars (Err fault) result = false
-
-abbrev pub once : Bool → ℕ → Look (Unit {0})
-once is_met at = if is_met then repeated at else Ok tt
 
 -- a method of the class with this number and so many variables, behind these of the class, where an entry point was met or not
 unfoldable pub method_named : Known → ℕ → ℕ → List MethodDef → Bool → WrittenMethod → Look MethodDef
@@ -56,12 +51,6 @@ unfoldable pub field_named : Scope → List FieldDef → WrittenField → Look F
 field_named s met f =
     type_named s f.kind >>= (λ t. once (is_among (map (λ g. g.name) met) f.name.name) f.name.at >>= (λ _.
     pure (record { name = f.name.name; fixed = f.fixed; kind = t })))
-
--- what was found of a class's members, and whether an entry point was met
-pub record Found : Type 0 where
-  pub fields : List FieldDef
-  pub methods : List MethodDef
-  pub begun : Bool
 
 abbrev pub has_entry_point : WrittenMethod → Bool
 has_entry_point m = is_some (option_and_then (λ b. b.entry) m.body)
@@ -88,13 +77,6 @@ base_of_kind kind.Delegate = None
 unfoldable pub base_named : Scope → ClassKind → Option WrittenType → Look (Option TExpr)
 base_named s k None = pure (base_of_kind k)
 base_named s k (Some written) = type_named s written >>= (λ t. pure (Some t))
-
--- what was found of a text's classes, with their names in plain spelling, and whether an entry point was met
-pub record Gathered : Type 0 where
-  pub names : List (List ℕ)
-  pub classes : List ClassDef
-  pub methods : List MethodDef
-  pub begun : Bool
 
 abbrev pub with_class : Gathered → WrittenClass → ClassDef → Found → Gathered
 with_class g c def members = record {

@@ -1,5 +1,5 @@
--- Whether two types are the same, as tests. This project's own.
-use Rattle.std.specs.Prelude.{ℕ, ◌+◌, ◌==◌, ◌&&◌, Bool, true, false, List, [], ◌∷◌, Option, Some, None}
+-- Whether two types, and two signatures, are the same, as tests. This project's own.
+use Rattle.std.specs.Prelude.{ℕ, ◌+◌, ◌==◌, ◌&&◌, Bool, true, false, List, [], ◌∷◌, length, Option, Some, None, bytes_eq}
 use Rattle.type_tree.specs.declared.tree.TExpr.{TExpr}
 use Rattle.type_tree.specs.declared.tree.TNode.{TNode}
 use Rattle.type_tree.specs.declared.tree.TNode.TheVariants.{Node, ClassVar, MethodVar}
@@ -8,6 +8,7 @@ use Rattle.type_tree.specs.declared.tree.Head.TheVariants as head
 use Rattle.type_tree.specs.Tree.{top_of, folded}
 use Rattle.il_model.specs.declared.method.PType.{PType}
 use Rattle.il_model.specs.declared.method.PType.TheVariants as ptype
+use Rattle.il_model.specs.declared.method.MethodDef.{MethodDef}
 
 -- a number for each head
 abbrev pub head_number : Head → ℕ
@@ -61,3 +62,8 @@ same_params [] [] = true
 same_params [] (q ∷ qs) = false
 same_params (p ∷ ps) [] = false
 same_params (p ∷ ps) (q ∷ qs) = same_param p q && same_params ps qs
+
+-- whether a method has this name, as many type variables, these parameters and this result
+abbrev pub has_signature : List ℕ → ℕ → List PType → Option TExpr → MethodDef → Bool
+has_signature name vars params result m =
+    bytes_eq name m.name && (vars == length m.vars) && same_params params m.params && same_result result m.result

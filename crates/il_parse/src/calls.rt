@@ -39,8 +39,8 @@ const WHOLE_CALLS: [(&[&[u8]], Form); 13] = [
 // What stands in front of the type argument of `NameOf`.
 const NAME_OF: [&[u8]; 5] = [b"string", b"Rt.Types", b"::", b"NameOf", b"<"];
 
-// The name, or the short spelling of `object` or `string`.
-fn plain_name(name: &[u8]) -> &[u8]
+/// The name, or the short spelling of `object` or `string`.
+pub(crate) fn plain_name(name: &[u8]) -> &[u8]
     ensures { result.now ≡ plain_name name.now }
 {
     if name == b"System.Object".as_slice() {

@@ -8,8 +8,8 @@ ghost use Rattle.il_model.specs.Literals.{int32_value, int64_value, place_value,
 
 use std::alloc::{AllocError, Global};
 
-// What follows this first byte.
-fn after(bytes: &[u8], first: u8) -> Option<&[u8]>
+/// What follows this first byte.
+pub(crate) fn after(bytes: &[u8], first: u8) -> Option<&[u8]>
     ensures { option_map (λ rest. rest.now) result ≡ after_byte first bytes.now }
 {
     let (b, rest) = bytes.split_first()?;
@@ -40,7 +40,8 @@ fn are_hex_digits(bytes: &[u8]) -> bool
     bytes.iter().all(|b| is_hex_digit(*b))
 }
 
-fn is_digit_run(bytes: &[u8]) -> bool
+/// Whether these are digits, at least one.
+pub(crate) fn is_digit_run(bytes: &[u8]) -> bool
     ensures { result ≡ is_run is_digit bytes.now }
 {
     match bytes {

@@ -38,7 +38,7 @@ rank_is (true ∷ ms) from (suc k) at count is marked = rw (ne_eqb from at (omeg
 rank_is (false ∷ ms) from zero at count is marked = cc
 rank_is (false ∷ ms) from (suc k) at count is marked = rank_is ms (from + 1) k at count (omega arith) marked
 
-within : (p : ℕ → Bool) (xs : List ℕ) → list_any p xs ≡ true → position_or_len p xs < length xs
+pub within : (p : ℕ → Bool) (xs : List ℕ) → list_any p xs ≡ true → position_or_len p xs < length xs
 within p [] some = cc
 within p (x ∷ xs) some = within_from (p x) some (λ rest. within p xs rest) where
   within_from : (b : Bool) → (b || list_any p xs) ≡ true → (list_any p xs ≡ true → position_or_len p xs < length xs) →

@@ -39,17 +39,26 @@ tokens_of at (p ∷ ps) =
     record { kind = p.kind; from = at + length p.blanks; to = at + length p.blanks + length (token_bytes p) } ∷
     tokens_of (at + length p.blanks + length (token_bytes p)) ps
 
--- what stands behind a token begins with a byte that ends it, or is nothing
+-- what stands behind a token begins with a byte that ends each, or is nothing
 abbrev pub IsStopped : List ℕ → Type 0
 IsStopped [] = Unit {0}
 IsStopped (c ∷ more) = IsStop c
+
+-- what stands behind these bytes ends the token of this kind that they spell
+abbrev pub IsEnd : TokenKind → List ℕ → List ℕ → Type 0
+IsEnd k bytes [] = Unit {0}
+IsEnd k bytes (c ∷ after) = (more : List ℕ) → spells k (bytes ++ c ∷ more) ≡ false
+
+pub ends_at_stop : (k : TokenKind) (b : ℕ) (bs after : List ℕ) → spells k (b ∷ bs) ≡ true → IsStopped after → IsEnd k (b ∷ bs) after
+ends_at_stop k b bs [] e s = tt
+ends_at_stop k b bs (c ∷ after) e s = λ more. stopped k b bs c more s e
 
 -- a piece with this behind it
 pub record IsPiece (p : Piece) (after : List ℕ) : Type 0 where
   pub blank : list_all is_blank p.blanks ≡ true
   pub spelled : spells p.kind (token_bytes p) ≡ true
   pub within : IsWithinLimit p.kind (token_bytes p)
-  pub stop : IsStopped after
+  pub end : IsEnd p.kind (token_bytes p) after
 
 -- pieces with this behind them, which is blank
 abbrev pub ArePieces : List Piece → List ℕ → Type 0
@@ -74,23 +83,23 @@ blanks_read (b ∷ bs) text at rest tokens here e read =
     (blanks_read bs text (at + 1) rest tokens next parts.1 (subst (λ n. AreTokensFrom text n tokens) place read))
 
 -- no front that is longer than the token spells one of its kind
-no_longer : (k : TokenKind) (b : ℕ) (bs after : List ℕ) (m : ℕ) → spells k (b ∷ bs) ≡ true → IsStopped after → length (b ∷ bs) < m →
+no_longer : (k : TokenKind) (b : ℕ) (bs after : List ℕ) (m : ℕ) → IsEnd k (b ∷ bs) after → length (b ∷ bs) < m →
     m ≤ length ((b ∷ bs) ++ after) → spells k (take m ((b ∷ bs) ++ after)) ≡ false
-no_longer k b bs [] m e s longer inside = absurd (omega (arith, length-append (b ∷ bs) []))
-no_longer k b bs (c ∷ more) m e s longer inside =
+no_longer k b bs [] m s longer inside = absurd (omega (arith, length-append (b ∷ bs) []))
+no_longer k b bs (c ∷ more) m s longer inside =
     let j = m - length (b ∷ bs) - 1 in
     let is : m ≡ length (b ∷ bs) + suc j = omega arith in
     ap (λ n. spells k (take n ((b ∷ bs) ++ c ∷ more))) is
     ∙ ap (spells k) (take-append-add (b ∷ bs) (c ∷ more) (suc j))
-    ∙ stopped k b bs c (take j more) s e
+    ∙ s (take j more)
 
-longest_piece : (k : TokenKind) (b : ℕ) (bs after : List ℕ) → spells k (b ∷ bs) ≡ true → IsStopped after →
+longest_piece : (k : TokenKind) (b : ℕ) (bs after : List ℕ) → spells k (b ∷ bs) ≡ true → IsEnd k (b ∷ bs) after →
     length (b ∷ bs) ≡ longest_front (spells k) (length ((b ∷ bs) ++ after)) ((b ∷ bs) ++ after)
 longest_piece k b bs after e s =
     sym (longest_front-is (spells k) (length ((b ∷ bs) ++ after)) ((b ∷ bs) ++ after) (length (b ∷ bs))
     (omega (arith, length-append (b ∷ bs) after))
     (λ some. ap (spells k) (take-append_seam (b ∷ bs) after) ∙ e)
-    (λ m longer inside. no_longer k b bs after m e s longer inside))
+    (λ m longer inside. no_longer k b bs after m s longer inside))
 
 -- the token stands in front
 piece_front : (p : Piece) (after : List ℕ) → IsPiece p after → HasToken (token_bytes p ++ after) p.kind (length (token_bytes p))
@@ -98,9 +107,21 @@ piece_front p after is =
     let bytes = token_bytes p ++ after in
     let begins = spells-first p.kind p.first p.rest is.spelled in
     has_token bytes p.first (p.rest ++ after) p.kind (length (token_bytes p)) refl (sym (spells-kind p.kind p.first p.rest is.spelled))
-    (longest_piece p.kind p.first p.rest after is.spelled is.stop) (λ none. omega arith)
+    (longest_piece p.kind p.first p.rest after is.spelled is.end) (λ none. omega arith)
     (omega (arith, length-append (token_bytes p) after)) (gap_len-none p.first (p.rest ++ after) begins.0 begins.1)
     (subst (λ bs. IsWithinLimit p.kind bs) (sym (take-append_seam (token_bytes p) after)) is.within)
+
+-- where the token of a piece begins, and where it ends
+pub token_here : (p : Piece) (text after : List ℕ) (at : ℕ) → drop at text ≡ p.blanks ++ (token_bytes p ++ after) →
+    drop (at + length p.blanks) text ≡ token_bytes p ++ after
+token_here p text after at here =
+    sym (drop-drop (length p.blanks) at text) ∙ ap (drop (length p.blanks)) here ∙ drop-append_seam p.blanks (token_bytes p ++ after)
+
+pub token_past : (p : Piece) (text after : List ℕ) (at : ℕ) → drop at text ≡ p.blanks ++ (token_bytes p ++ after) →
+    drop (at + length p.blanks + length (token_bytes p)) text ≡ after
+token_past p text after at here =
+    sym (drop-drop (length (token_bytes p)) (at + length p.blanks) text) ∙ ap (drop (length (token_bytes p))) (token_here p text after at here)
+    ∙ drop-append_seam (token_bytes p) after
 
 -- the tokens of a text that ends with these pieces
 pub pieces_read : (ps : List Piece) (text : List ℕ) (at : ℕ) (last : List ℕ) → at ≤ length text → drop at text ≡ pieces_text ps last → ArePieces ps last →
@@ -110,13 +131,10 @@ pieces_read (p ∷ ps) text at last inside here are =
     let after = pieces_text ps last in
     let from = at + length p.blanks in
     let len = length (token_bytes p) in
-    let here_token : drop from text ≡ token_bytes p ++ after =
-    sym (drop-drop (length p.blanks) at text) ∙ ap (drop (length p.blanks)) here ∙ drop-append_seam p.blanks (token_bytes p ++ after) in
-    let here_after : drop (from + len) text ≡ after = sym (drop-drop len from text) ∙ ap (drop len) here_token ∙ drop-append_seam (token_bytes p) after in
     let size : length (drop at text) ≡ length p.blanks + (len + length after) =
     ap length here ∙ length-append p.blanks (token_bytes p ++ after) ∙ ap (λ n. length p.blanks + n) (length-append (token_bytes p) after) in
     let room : from + len ≤ length text = omega (arith, size, length-drop at text) in
     blanks_read p.blanks text at (token_bytes p ++ after) (tokens_of at (p ∷ ps)) here are.0.blank
     (token_reads text from len p.kind (tokens_of (from + len) ps) (omega (arith, room))
-    (subst (λ bs. HasToken bs p.kind len) (sym here_token) (piece_front p after are.0))
-    (pieces_read ps text (from + len) last room here_after are.1))
+    (subst (λ bs. HasToken bs p.kind len) (sym (token_here p text after at here)) (piece_front p after are.0))
+    (pieces_read ps text (from + len) last room (token_past p text after at here) are.1))

@@ -1,5 +1,8 @@
 // Whole programs.
-ghost use Rattle.std.specs.Prelude.{◌≡◌, ◌-◌, ◌^◌, ◌++◌, min, drop, length, flat_map, IfOk, OnOk};
+ghost use Rattle.std.specs.Prelude.{◌≡◌, ◌-◌, ◌^◌, ◌++◌, List, min, drop, length, flat_map, IfOk, OnOk};
+ghost use Rattle.il_text.specs.declared.token.Token.{Token};
+ghost use Rattle.il_text.specs.Tokens.{AreTokens};
+ghost use Rattle.il_model.specs.Accepted.{IsOfText};
 ghost use Rattle.il_model.specs.Library.{library_classes};
 ghost use Rattle.il_model.specs.Canonical.{canonical_text, canonical_len, class_lines};
 ghost use Rattle.il_print.specs.ClassNames.{names_of};
@@ -15,10 +18,11 @@ use std::alloc::Global;
 const LIBRARY_CLASSES: usize = 13;
 
 /// The canonical text of a program: its classes behind those of the library, each line as `docs/GRAMMAR.md`
-/// says. Of a program that no text gives it has what the definition says, though no text that is accepted.
-/// This project's own.
+/// says. Of a program that some text gives it can be read as tokens. Of a program that no text gives it has
+/// what the definition says, though no text that is accepted. This project's own.
 pub fn print(alloc: Global, program: &Program) -> Result<Vec<u8>, NoMemory>
-    ensures { IfOk result (λ text. text.items ≡ canonical_text program.now) }
+    ensures text { IfOk result (λ text. text.items ≡ canonical_text program.now) }
+    ensures tokens { IsOfText program.now → IfOk result (λ text. (tokens : List Token) × AreTokens text.items tokens) }
 {
     let mut text = Text::new(alloc);
     put_classes(&mut text, program, own_classes(program))?;

@@ -1,18 +1,16 @@
 -- What is admitted among closed types, methods with their arguments included, and which bounds are judged there. This project's own.
-use Rattle.std.specs.Prelude.{ℕ, ◌+◌, Bool, not, ◌&&◌, ◌||◌, List, [], ◌∷◌, ◌++◌, flat_map, sum_by, zip, is_none, nat_le, option_to_list}
+use Rattle.std.specs.Prelude.{Bool, not, ◌||◌, List, [], Some, zip, is_none}
 use Rattle.std.specs.List.{list_all}
 use Rattle.type_tree.specs.declared.tree.TExpr.{TExpr}
-use Rattle.type_tree.specs.Positions.{positions_of}
 use Rattle.type_tree.specs.Substitution.{substituted}
 use Rattle.il_model.specs.declared.class.VarDef.{VarDef}
-use Rattle.il_model.specs.declared.method.PType.{PType}
-use Rattle.il_model.specs.declared.method.PType.TheVariants as ptype
 use Rattle.il_model.specs.declared.method.MethodDef.{MethodDef}
 use Rattle.il_model.specs.declared.program.Program.{Program}
 use Rattle.il_model.specs.Entries.{arguments_of}
 use Rattle.il_model.specs.Trees.{trees_in}
 use Rattle.il_model.specs.Assignable.{Bounded, meets_bound}
-use Rattle.il_model.specs.Admission.{limit_of, most_positions}
+use Rattle.il_model.specs.Admission.{limit_of}
+use Rattle.il_model.specs.Methods.{limit_at}
 use Rattle.il_model.specs.ClassRules.{meets_own_bounds}
 
 -- ---- admission
@@ -20,27 +18,9 @@ use Rattle.il_model.specs.ClassRules.{meets_own_bounds}
 abbrev pub is_admitted : Program → TExpr → Bool
 is_admitted program t = is_none (limit_of program t)
 
-abbrev pub type_of_param : PType → List TExpr
-type_of_param (ptype.Value t) = t ∷ []
-type_of_param (ptype.Pointer t) = t ∷ []
-type_of_param ptype.Native = []
-
-abbrev pub types_of_params : List PType → List TExpr
-types_of_params params = flat_map type_of_param params
-
--- the types of a method's result, parameters and locals, over its own variables
-abbrev pub signature_and_locals : MethodDef → List TExpr
-signature_and_locals m = option_to_list m.result ++ types_of_params m.params ++ flat_map (λ b. types_of_params b.locals) (option_to_list m.body)
-
--- the positions of a method with its class and its arguments, the method being one
-abbrev pub method_positions : TExpr → List TExpr → ℕ
-method_positions c args = 1 + sum_by positions_of (c ∷ args)
-
 -- whether a method is admitted at this class and these arguments: it has not too many positions, and they and the types of its signature and locals are admitted
 abbrev pub is_admitted_method : Program → TExpr → List TExpr → MethodDef → Bool
-is_admitted_method program c args m =
-    nat_le (method_positions c args) most_positions &&
-    (list_all (is_admitted program) (c ∷ args) && list_all (λ t. is_admitted program (substituted (arguments_of c) args t)) (signature_and_locals m))
+is_admitted_method program c args m = is_none (limit_at program c args (Some m))
 
 -- ---- bounds
 

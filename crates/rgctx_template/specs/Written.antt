@@ -14,12 +14,12 @@ use Rattle.il_model.specs.Ops.{Operand, operand_of}
 use Rattle.il_model.specs.Ops as operand
 use Rattle.il_model.specs.Found.{method_at, method_found, field_found}
 use Rattle.il_model.specs.ClassRules.{has_counts, bounds_written}
-use Rattle.rgctx_template.specs.Admitted.{types_of_params}
+use Rattle.il_model.specs.Methods.{types_of_places}
 
 -- ---- types
 
 abbrev pub types_of_method_ref : MRef → List TExpr
-types_of_method_ref m = option_to_list m.result ++ m.class ∷ m.args ++ types_of_params m.params
+types_of_method_ref m = option_to_list m.result ++ m.class ∷ m.args ++ types_of_places m.params
 
 abbrev pub types_of_field_ref : FRef → List TExpr
 types_of_field_ref f = f.kind ∷ f.class ∷ []
@@ -47,11 +47,11 @@ types_of_sort sort.Finally = []
 
 -- the types that a body writes: of its locals, in its instructions and in its clauses
 abbrev pub types_of_body : Body → List TExpr
-types_of_body b = types_of_params b.locals ++ flat_map types_of_op b.code ++ flat_map (λ clause. types_of_sort clause.sort) b.clauses
+types_of_body b = types_of_places b.locals ++ flat_map types_of_op b.code ++ flat_map (λ clause. types_of_sort clause.sort) b.clauses
 
 -- the types that a method writes: its result, the bounds of its variables, its parameters, and what its body writes
 abbrev pub types_of_method : MethodDef → List TExpr
-types_of_method m = option_to_list m.result ++ bounds_written m.vars ++ types_of_params m.params ++ flat_map types_of_body (option_to_list m.body)
+types_of_method m = option_to_list m.result ++ bounds_written m.vars ++ types_of_places m.params ++ flat_map types_of_body (option_to_list m.body)
 
 -- each type that a method writes has, at every depth, as many arguments as its class has variables. Of the types that a class writes the rule on hierarchies says so
 pub record HasCounts (program : Program) : Type 0 where

@@ -18,8 +18,8 @@ pub trait WordsRule {
     /// Which indexes always hold a word.
     ghost always: { ℕ → Type 0 };
 
-    /// Which indexes a word names, by the index at which it stands: where it stands, these hold words too.
-    ghost names: { ℕ → ℕ → ℕ → Type 0 };
+    /// Which indexes the held words name: wherever words fit and have all that is held, these hold words too.
+    ghost names: { Self.Cat → (ℕ → ℕ) → ℕ → Type 0 };
 
     /// An allowed claim that finds 0 keeps the fit.
     ghost claim_fits: { (cat : Self.Cat) (words : List ℕ) (held : ℕ → ℕ) (i word : ℕ) → length words ≡ word_count → fits cat words → Within held words → i < word_count → word ≢ 0 → word < 2 ^ 64 → slice_index words i ≡ 0 → allows cat held i word → fits cat (slice_set words i word) };
@@ -27,8 +27,8 @@ pub trait WordsRule {
     /// Where the words fit, an index that always holds a word holds one.
     ghost always_there: { (cat : Self.Cat) (words : List ℕ) (i : ℕ) → fits cat words → always i → slice_index words i ≢ 0 };
 
-    /// Where the words fit, what a word names is there.
-    ghost named_there: { (cat : Self.Cat) (words : List ℕ) (i j : ℕ) → i < word_count → fits cat words → slice_index words i ≢ 0 → names i (slice_index words i) j → slice_index words j ≢ 0 };
+    /// Where the words fit and have all that is held, what the held words name is there.
+    ghost named_there: { (cat : Self.Cat) (words : List ℕ) (held : ℕ → ℕ) (i : ℕ) → length words ≡ word_count → fits cat words → Within held words → names cat held i → slice_index words i ≢ 0 };
 }
 
 /// The context words under a rule. A word goes from 0 to one value, for good. No call takes memory.
@@ -63,7 +63,7 @@ pub trait Words<R: WordsRule> {
 
         ensures met { (cat : R.Cat) → meets cat self.old → meets cat self.new }
         ensures always { (cat : R.Cat) → meets cat self.old → R.always i → result ≢ 0 }
-        ensures named { (cat : R.Cat) (j : ℕ) → meets cat self.old → held self.old j ≢ 0 → R.names j (held self.old j) i → result ≢ 0 }
+        ensures named { (cat : R.Cat) → meets cat self.old → R.names cat (held self.old) i → result ≢ 0 }
 
         ensures only { alone self.old ≡ true → (result ≡ held self.old i) × ((j : ℕ) → held self.new j ≡ held self.old j) };
 
@@ -83,7 +83,7 @@ pub trait Words<R: WordsRule> {
 
         ensures met { (cat : R.Cat) → meets cat self.old → R.allows cat (held self.old) i new → meets cat self.new }
         ensures always { (cat : R.Cat) → meets cat self.old → R.always i → result ≢ 0 }
-        ensures named { (cat : R.Cat) (j : ℕ) → meets cat self.old → held self.old j ≢ 0 → R.names j (held self.old j) i → result ≢ 0 }
+        ensures named { (cat : R.Cat) → meets cat self.old → R.names cat (held self.old) i → result ≢ 0 }
 
         ensures only { alone self.old ≡ true → (result ≡ held self.old i) × ((j : ℕ) → j ≢ i → held self.new j ≡ held self.old j) };
 

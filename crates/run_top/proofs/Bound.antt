@@ -2,8 +2,8 @@
 use Rattle.std.proofs.Common.{◌≡◌, ◌≤◌, ℕ, zero, suc, ◌+◌, ◌-◌, List, [], ◌∷◌, length, Option, Some, None, refl, ap, arith}
 use Rattle.std.specs.Prelude.{slice_get}
 use Rattle.std.proofs.lemmas.Option.{slice_get_within}
-use Rattle.il_model.specs.declared.first.FirstOp.{FirstOp}
-use Rattle.il_model.specs.declared.first.FirstOp.TheVariants.{Push, Add, Print, Ret}
+use Rattle.run_top.specs.declared.first.FirstOp.{FirstOp}
+use Rattle.run_top.specs.declared.first.FirstOp.TheVariants.{Push, Add, Print, Ret}
 use Rattle.interaction.specs.Process.{Exchange, Talk, rests, begins, settles, spells, asks, steps_of}
 use Rattle.interaction.specs.Process as process
 use Rattle.interaction.specs.Thread.{Turn, Makes, Turns, cost_of}

@@ -1,8 +1,8 @@
 -- What a kept run of a compiled program has.
 use Rattle.std.proofs.Common.{◌≡◌, ◌≤◌, ℕ, ◌+◌, ◌*◌, List, [], length, Bool, true, false, refl, sym, ap, ◌∙◌, subst, arith}
 use Rattle.std.proofs.lemmas.List.{length-map}
-use Rattle.il_model.specs.declared.first.FirstOp.{FirstOp}
-use Rattle.il_model.specs.WellFormed.{IsWellFormed}
+use Rattle.run_top.specs.declared.first.FirstOp.{FirstOp}
+use Rattle.run_top.specs.WellFormed.{IsWellFormed}
 use Rattle.interaction.specs.Process.{Next}
 use Rattle.interaction.specs.History.{Legal}
 use Rattle.interaction.specs.Run.{Outcome, Ending, Done as AllDone, TurnsUsed, StuckAt, FullAt, Idle, ends_in, turns_of}

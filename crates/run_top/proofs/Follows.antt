@@ -2,9 +2,9 @@
 use Rattle.std.proofs.Common.{◌≡◌, ◌≢◌, ℕ, ℤ, ◌+◌, ◌-◌, ◌*◌, ◌%◌, ◌<◌, ◌≤◌, List, [], ◌∷◌, ◌++◌, map, length, Bool, true, false, Some, refl, sym, ap, ◌∙◌, subst, arith, lit<}
 use Rattle.std.specs.Prelude.{slice_get, slice_index, slice_set}
 use Rattle.std.proofs.lemmas.List.{get_or-set_other, get_or-set_same, length-set}
-use Rattle.il_model.specs.declared.first.FirstOp.{FirstOp}
-use Rattle.il_model.specs.declared.first.FirstOp.TheVariants.{Push, Add, Print, Ret}
-use Rattle.il_model.specs.WellFormed.{IsFine, deepest}
+use Rattle.run_top.specs.declared.first.FirstOp.{FirstOp}
+use Rattle.run_top.specs.declared.first.FirstOp.TheVariants.{Push, Add, Print, Ret}
+use Rattle.run_top.specs.WellFormed.{IsFine, deepest}
 use Rattle.rv_isa.specs.declared.instr.Instr.TheVariants.{Addi, Addiw, Lui, Ld, Sd, Addw, Ecall}
 use Rattle.rv_isa.specs.Word.{word_of}
 use Rattle.interaction.specs.declared.turn.What.{What}

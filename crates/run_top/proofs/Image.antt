@@ -4,9 +4,9 @@ use Rattle.std.specs.Prelude.{◌⊎◌, ◌&&◌, ◌==◌, if◌then◌else◌
 use Rattle.std.proofs.Math.Seq.{get_or-append_seam}
 use Rattle.std.proofs.lemmas.Option.{slice_get-get_or}
 use Rattle.std.proofs.lemmas.List.{length-replicate}
-use Rattle.il_model.specs.declared.first.FirstOp.{FirstOp}
-use Rattle.il_model.specs.declared.first.FirstOp.TheVariants.{Push, Add, Print as PrintOp, Ret}
-use Rattle.il_model.specs.WellFormed.{IsFine, IsWellFormed}
+use Rattle.run_top.specs.declared.first.FirstOp.{FirstOp}
+use Rattle.run_top.specs.declared.first.FirstOp.TheVariants.{Push, Add, Print as PrintOp, Ret}
+use Rattle.run_top.specs.WellFormed.{IsFine, IsWellFormed}
 use Rattle.rv_isa.specs.declared.instr.Instr.TheVariants.{Ebreak}
 use Rattle.rv_isa.specs.Word.{word_of}
 use Rattle.interaction.specs.declared.history.Event.{Event}

@@ -10,6 +10,6 @@ pub mod Clauses
 mod SpelledLemmas
 mod PutLemmas
 mod RefuseLemmas
-pub mod FirstLemmas
-pub mod SmallNumbers
+mod FormLemmas
+pub mod Deepest
 mod TextLemmas

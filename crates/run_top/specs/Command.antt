@@ -1,5 +1,5 @@
--- The words of the one command. This project's own.
-use Rattle.std.specs.Prelude.{◌≡◌, ◌≢◌, ◌≤◌, ℕ, List, [], ◌∷◌, codes}
+-- The words of the commands. This project's own.
+use Rattle.std.specs.Prelude.{◌≡◌, ◌≢◌, ◌≤◌, ℕ, List, [], ◌∷◌, codes, Option, Some, None}
 use Rattle.std.specs.Fmt.{decimal}
 
 -- a word that is a file's: it isn't empty and doesn't begin with a minus
@@ -14,12 +14,22 @@ pub record SpellsTurns (word : List ℕ) (turns : ℕ) : Type 0 where
   pub high : turns ≤ 4000000
 
 -- `exec F @all 0 TURNS`: five words, those of the command, the file, the choice of all bodies, the seed and the turns
-pub record IsCommand (words : List (List ℕ)) (name : List ℕ) (turns : ℕ) : Type 0 where
+pub record IsExec (words : List (List ℕ)) (name : List ℕ) (turns : ℕ) : Type 0 where
   pub words_are : words ≡ codes "exec" ∷ name ∷ codes "@all" ∷ codes "0" ∷ decimal turns ∷ []
   pub plain : IsPlainWord name
   pub low : 1 ≤ turns
   pub high : turns ≤ 4000000
 
+-- `check F`: two words
+pub record IsCheck (words : List (List ℕ)) (name : List ℕ) : Type 0 where
+  pub words_are : words ≡ codes "check" ∷ name ∷ []
+  pub plain : IsPlainWord name
+
+-- a command on this file, which runs its program for so many turns, or only checks it
+abbrev pub IsCommand : List (List ℕ) → List ℕ → Option ℕ → Type 0
+IsCommand words name (Some turns) = IsExec words name turns
+IsCommand words name None = IsCheck words name
+
 -- the words are no command
 abbrev pub IsUsage : List (List ℕ) → Type 0
-IsUsage words = (name : List ℕ) (turns : ℕ) → ¬ IsCommand words name turns
+IsUsage words = (name : List ℕ) (turns : Option ℕ) → ¬ IsCommand words name turns

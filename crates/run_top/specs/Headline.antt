@@ -1,54 +1,101 @@
 -- What the top call promises.
-use Rattle.std.specs.Prelude.{◌≡◌, ◌≢◌, ◌≤◌, ◌+◌, ◌*◌, ◌⊎◌, ℕ, List, Option, Some, None, ⊤, length}
+use Rattle.std.specs.Prelude.{◌≡◌, ◌≢◌, ◌≤◌, ◌+◌, ◌*◌, ◌⊎◌, ℕ, List, Option, Some, None, Result, Ok, Err, ⊤, length}
 use Rattle.mn_outside.specs.Causes.{Held, Holds, Rose}
 use Rattle.interaction.specs.History.{Legal}
-use Rattle.il_model.specs.declared.first.FirstOp.{FirstOp}
+use Rattle.run_top.specs.declared.first.FirstOp.{FirstOp}
+use Rattle.il_parse.specs.declared.fault.ParseFault.{ParseFault}
+use Rattle.il_parse.specs.declared.answer.Parsed.{Parsed}
+use Rattle.il_parse.specs.Answer.{Parses, IsAnswer}
+use Rattle.cil_verify.specs.declared.fault.VerifyFault.{VerifyFault}
+use Rattle.cil_verify.specs.declared.verified.Verified.{Verified}
+use Rattle.cil_verify.specs.Verifies.{IsVerified, IsRefused}
 use Rattle.store_object.specs.Replay.{store}
 use Rattle.run_top.specs.declared.record.RunRecord.{RunRecord}
+use Rattle.run_top.specs.declared.refusal.TextRefusal.{TextRefusal}
+use Rattle.run_top.specs.declared.refusal.TextRefusal.TheVariants.{Parser, Verifier, Form}
 use Rattle.run_top.specs.FirstForm.{IsFirstForm}
 use Rattle.run_top.specs.Process.{begin, meaning, naming}
 use Rattle.run_top.specs.Code.{frame_words, image_of}
 use Rattle.run_top.specs.Run.{IsRun, image_run}
 use Rattle.run_top.specs.Executed.{AllExecuted, AllFirst, EndsSo}
+use Rattle.run_top.specs.declared.top.Found.{Found}
+use Rattle.run_top.specs.declared.top.Found.TheVariants.{Accepted, Ran}
+use Rattle.run_top.specs.Places.{spot_at}
 use Rattle.run_top.specs.Command.{IsCommand, IsUsage}
-use Rattle.run_top.specs.Written.{usage_line, first_form_line, file_line}
+use Rattle.run_top.specs.Written.{usage_line, refusal_line, file_line, accepted_line, status_of}
 
--- no program has this text
-abbrev pub IsRefused : List ℕ → Type 0
-IsRefused text = (ops : List FirstOp) → ¬ IsFirstForm text ops
+-- the text is a program and nothing else, and the verifier accepts it
+pub record IsJudged (text : List ℕ) (v : Verified) : Type 0 where
+  pub parsed : Parsed
+  pub parses : IsAnswer text (Ok parsed)
+  pub program : v.program ≡ parsed.program
+  pub verified : IsVerified v
 
--- a run of the program in the text of a file, at most so many turns long
-pub record IsRunOf (held : Option Held) (name : List ℕ) (limit : ℕ) (r : RunRecord) : Type 0 where
-  -- the text, which is the file's where it is told what is held, spells this program
-  pub text : (text : List ℕ) × Holds held name text × IsFirstForm text r.program.code.items
-  pub image : r.image.items ≡ image_of r.program.code.items
+-- Why a text is refused, from what the text is: by the parser; by the verifier, at the place in the text of the definition or instruction;
+-- or, where its program should be run for so many turns, since it isn't of the first form.
+pub data RefusedBy (Is : Result Parsed ParseFault → Type 0) : Option ℕ → TextRefusal → Type 0 where
+  by_parser : (turns : Option ℕ) (fault : ParseFault) → Is (Err fault) → RefusedBy Is turns (Parser fault)
+  by_verifier : (turns : Option ℕ) (parsed : Parsed) (fault : VerifyFault) → Is (Ok parsed) → IsRefused parsed.program fault →
+      RefusedBy Is turns (Verifier (spot_at parsed fault.at) fault.cause)
+  by_form : (limit : ℕ) (parsed : Parsed) (v : Verified) → Is (Ok parsed) → v.program ≡ parsed.program → IsVerified v →
+      ((ops : List FirstOp) → ¬ IsFirstForm v.program ops) → RefusedBy Is (Some limit) Form
+
+-- a run of a program of the first form that was accepted, at most so many turns long
+pub record IsProgramRun (limit : ℕ) (v : Verified) (r : RunRecord) : Type 0 where
+  pub program_is : r.program ≡ v
+  -- the program has these instructions
+  pub ops : List FirstOp
+  pub form : IsFirstForm v.program ops
+  pub image : r.image.items ≡ image_of ops
   -- turns, history and ending are those of the image's run
-  pub run : IsRun (image_run r.image.items (frame_words r.program.code.items) limit) r.turns.items r.history.items r.ending
+  pub run : IsRun (image_run r.image.items (frame_words ops) limit) r.turns.items r.history.items r.ending
   -- the program's thread makes exactly these requests when it is given these replies, which the store gives
-  pub legal : Legal store naming (meaning r.program.code.items) begin r.history.items
+  pub legal : Legal store naming (meaning ops) begin r.history.items
   -- they are those of this form
   pub requests : AllFirst r.history.items
   pub executed : AllExecuted r.image.items r.turns.items
   pub ends : EndsSo limit r.turns.items r.history.items r.ending
-  pub few : length r.turns.items ≤ 1024 * (length r.program.code.items + 1)
+  pub few : length r.turns.items ≤ 1024 * (length ops + 1)
+
+-- a run of the program that a text is
+pub record IsTextRun (limit : ℕ) (text : List ℕ) (r : RunRecord) : Type 0 where
+  pub program : Verified
+  pub judged : IsJudged text program
+  pub run : IsProgramRun limit program r
+
+-- a run of the program in the text of a file, which is the file's where it is told what is held
+pub record IsRunOf (held : Option Held) (name : List ℕ) (limit : ℕ) (r : RunRecord) : Type 0 where
+  pub text : List ℕ
+  pub is_held : Holds held name text
+  pub run : IsTextRun limit text r
 
 -- the run of a command
 abbrev pub IsKept : List (List ℕ) → Option Held → RunRecord → Type 0
-IsKept words held r = (name : List ℕ) × (limit : ℕ) × IsCommand words name limit × IsRunOf held name limit r
+IsKept words held r = (name : List ℕ) × (limit : ℕ) × IsCommand words name (Some limit) × IsRunOf held name limit r
+
+-- what a command finds in a text that isn't refused
+abbrev pub IsFound : Option ℕ → List ℕ → Found → Type 0
+IsFound None text (Accepted v) = IsJudged text v
+IsFound None text (Ran r) = ⊥
+IsFound (Some limit) text (Accepted v) = ⊥
+IsFound (Some limit) text (Ran r) = IsTextRun limit text r
 
 -- the file of a command was read, and its text is refused
-abbrev pub HasRefusedText : List (List ℕ) → Option Held → Type 0
-HasRefusedText words held = (name : List ℕ) × (limit : ℕ) × (text : List ℕ) × IsCommand words name limit × Holds held name text × IsRefused text
+abbrev pub HasRefusedText : List (List ℕ) → Option Held → TextRefusal → Type 0
+HasRefusedText words held why =
+    (name : List ℕ) × (turns : Option ℕ) × (text : List ℕ) × IsCommand words name turns × Holds held name text × RefusedBy (IsAnswer text) turns why
 
--- why there is no run, with the status and the line of each cause: the words are no command;
--- the text of its file is refused; or reading this file failed
-pub data Refuses (words : List (List ℕ)) (held : Option Held) (faults_before faults_now : List ℕ → ℕ) : ℕ → List ℕ → Type 0 where
-  usage : IsUsage words → Refuses words held faults_before faults_now 1 usage_line
-  text : HasRefusedText words held → Refuses words held faults_before faults_now 2 first_form_line
-  file : (name : List ℕ) (limit : ℕ) → IsCommand words name limit → Rose (faults_before name) (faults_now name)
-      → Refuses words held faults_before faults_now 8 (file_line name)
+-- What a command without a run gives, with the status and the line of each cause: the words are no command; the text of its file is
+-- refused; reading this file failed; or the program of its text is accepted, and was only to be checked.
+pub data Gives (words : List (List ℕ)) (held : Option Held) (faults_before faults_now : List ℕ → ℕ) : ℕ → List ℕ → Type 0 where
+  usage : IsUsage words → Gives words held faults_before faults_now 1 usage_line
+  text : (why : TextRefusal) → HasRefusedText words held why → Gives words held faults_before faults_now 2 (refusal_line why)
+  file : (name : List ℕ) (turns : Option ℕ) → IsCommand words name turns → Rose (faults_before name) (faults_now name)
+      → Gives words held faults_before faults_now 8 (file_line name)
+  accepted : (name text : List ℕ) (v : Verified) → IsCommand words name None → Holds held name text → IsJudged text v
+      → Gives words held faults_before faults_now 0 (accepted_line v.program)
 
--- the statuses of this command
+-- the statuses of these commands
 abbrev pub IsStatus : ℕ → Type 0
 IsStatus n = (n ≡ 0) ⊎ ((n ≡ 1) ⊎ ((n ≡ 2) ⊎ ((n ≡ 5) ⊎ ((n ≡ 8) ⊎ ((n ≡ 9) ⊎ (n ≡ 10))))))
 
@@ -56,25 +103,40 @@ IsStatus n = (n ≡ 0) ⊎ ((n ≡ 1) ⊎ ((n ≡ 2) ⊎ ((n ≡ 5) ⊎ ((n ≡ 
 abbrev pub IsRunStatus : ℕ → Type 0
 IsRunStatus n = (n ≡ 0) ⊎ (n ≡ 5)
 
--- those of a command that has no run
+-- those of a command that is refused
 abbrev pub IsRefusalStatus : ℕ → Type 0
 IsRefusalStatus n = (n ≡ 1) ⊎ ((n ≡ 2) ⊎ (n ≡ 8))
+
+-- those of a command without a run
+abbrev pub IsPlainStatus : ℕ → Type 0
+IsPlainStatus n = (n ≡ 0) ⊎ IsRefusalStatus n
 
 -- neither the sink nor the memory cut the answer short
 pub record IsUncut (status : ℕ) : Type 0 where
   pub put : status ≢ 9
   pub room : status ≢ 10
 
--- where it is told what is held: a command whose file holds a text that no program has is answered so
+-- where it is told what is held: a command whose file holds a text that is refused is answered so
 abbrev pub RefusesText : List (List ℕ) → Option Held → ℕ → Type 0
 RefusesText words None status = ⊤
 RefusesText words (Some held) status =
-    (name : List ℕ) (limit : ℕ) (text : List ℕ) → IsCommand words name limit → held name ≡ Some text → IsRefused text
-    → status ≢ 8 → IsUncut status → status ≡ 2
+    (name : List ℕ) (turns : Option ℕ) (text : List ℕ) (why : TextRefusal) → IsCommand words name turns → held name ≡ Some text →
+    RefusedBy (Parses text) turns why → status ≢ 8 → IsUncut status → status ≡ 2
 
--- and one whose file holds the text of a program is run
-abbrev pub RunsText : List (List ℕ) → Option Held → ℕ → Type 0
-RunsText words None status = ⊤
-RunsText words (Some held) status =
-    (name : List ℕ) (limit : ℕ) (text : List ℕ) (ops : List FirstOp) → IsCommand words name limit → held name ≡ Some text
-    → IsFirstForm text ops → status ≢ 8 → IsUncut status → IsRunStatus status
+-- the status of a command whose text is accepted, and whose program is of the first form where it should be run
+abbrev pub IsAcceptedStatus : Option ℕ → ℕ → Type 0
+IsAcceptedStatus None status = status ≡ 0
+IsAcceptedStatus (Some limit) status = IsRunStatus status
+
+-- what is asked of an accepted program: nothing where it is only checked
+abbrev pub SuitsCommand : Option ℕ → Verified → Type 0
+SuitsCommand None v = ⊤
+SuitsCommand (Some limit) v = (ops : List FirstOp) × IsFirstForm v.program ops
+
+-- and one whose file holds the text of an accepted program is carried out
+abbrev pub AcceptsText : List (List ℕ) → Option Held → ℕ → Type 0
+AcceptsText words None status = ⊤
+AcceptsText words (Some held) status =
+    (name : List ℕ) (turns : Option ℕ) (text : List ℕ) (parsed : Parsed) (v : Verified) → IsCommand words name turns → held name ≡ Some text →
+    Parses text (Ok parsed) → v.program ≡ parsed.program → IsVerified v → SuitsCommand turns v → status ≢ 8 → IsUncut status →
+    IsAcceptedStatus turns status

@@ -1,4 +1,4 @@
-pub mod FirstWords
+pub mod WellFormed
 pub mod Values
 pub mod Process
 pub mod Code
@@ -9,5 +9,6 @@ pub mod Executed
 pub mod History
 pub mod Command
 pub mod FirstForm
+pub mod Places
 pub mod Written
 pub mod Headline

@@ -1,7 +1,7 @@
 -- The unshared program of one thread: what each instruction means, as a tree. After ECMA-335, Partition III.
 use Rattle.std.specs.Prelude.{ℕ, ◌+◌, List, [], ◌∷◌, Option, Some, None, slice_get}
-use Rattle.il_model.specs.declared.first.FirstOp.{FirstOp}
-use Rattle.il_model.specs.declared.first.FirstOp.TheVariants.{Push, Add, Print as PrintOp, Ret}
+use Rattle.run_top.specs.declared.first.FirstOp.{FirstOp}
+use Rattle.run_top.specs.declared.first.FirstOp.TheVariants.{Push, Add, Print as PrintOp, Ret}
 use Rattle.interaction.specs.declared.history.Event.{Event}
 use Rattle.interaction.specs.Process.{Act, Next, Ask, Over, Stuck, Naming}
 use Rattle.interaction.specs.Starts.{begin_of, as_process}

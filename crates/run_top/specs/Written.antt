@@ -1,7 +1,19 @@
 -- What is written for each status, and what a call that answers leaves of the sink. This project's own.
-use Rattle.std.specs.Prelude.{◌≡◌, ◌≤◌, ◌⊎◌, ◌++◌, ◌∷◌, [], ℕ, List, Option, codes}
+use Rattle.std.specs.Prelude.{◌≡◌, ◌≤◌, ◌⊎◌, ◌-◌, ◌++◌, length, ◌∷◌, [], ℕ, List, Option, codes}
+use Rattle.std.specs.Fmt.{decimal}
 use Rattle.std.specs.Io.KnownBytes.{Appends}
 use Rattle.mn_outside.specs.Causes.{Rose, AppendsPrefix, AppendsTwo}
+use Rattle.il_text.specs.declared.place.Spot.{Spot}
+use Rattle.il_text.specs.declared.fault.TextCause.{TextCause}
+use Rattle.il_text.specs.declared.fault.TextCause.TheVariants as text
+use Rattle.il_parse.specs.declared.fault.ParseCause.{ParseCause}
+use Rattle.il_parse.specs.declared.fault.ParseCause.TheVariants as parse
+use Rattle.il_model.specs.declared.program.Program.{Program}
+use Rattle.il_model.specs.Library.{library_classes, library_methods}
+use Rattle.cil_verify.specs.declared.fault.VerifyCause.{VerifyCause}
+use Rattle.cil_verify.specs.declared.fault.VerifyCause.TheVariants as verify
+use Rattle.run_top.specs.declared.refusal.TextRefusal.{TextRefusal}
+use Rattle.run_top.specs.declared.refusal.TextRefusal.TheVariants.{Parser, Verifier, Form}
 use Rattle.store_object.specs.declared.ending.Ending.{Ending}
 use Rattle.store_object.specs.declared.ending.Ending.TheVariants as kept
 use Rattle.run_top.specs.declared.record.RunRecord.{RunRecord}
@@ -14,8 +26,52 @@ line text = text ++ 10 ∷ []
 abbrev pub usage_line : List ℕ
 usage_line = line (codes "Usage")
 
-abbrev pub first_form_line : List ℕ
-first_form_line = line (codes "Text 1:1 FirstForm")
+abbrev pub name_of_text_cause : TextCause → List ℕ
+name_of_text_cause text.BadByte = codes "BadByte"
+name_of_text_cause text.BadLiteral = codes "BadLiteral"
+name_of_text_cause text.LongName = codes "LongName"
+name_of_text_cause text.TooLong = codes "TooLong"
+
+abbrev pub name_of_cause : ParseCause → List ℕ
+name_of_cause (parse.Text c) = name_of_text_cause c
+name_of_cause parse.Syntax = codes "Syntax"
+name_of_cause parse.Unsupported = codes "Unsupported"
+name_of_cause parse.Repeated = codes "Repeated"
+name_of_cause parse.UnknownName = codes "UnknownName"
+name_of_cause parse.TooMany = codes "TooMany"
+name_of_cause parse.NoEntry = codes "NoEntry"
+
+-- the place of a refusal, as line and column
+abbrev pub place_of : Spot → List ℕ
+place_of spot = decimal spot.line ++ codes ":" ++ decimal spot.column
+
+abbrev pub name_of_verify_cause : VerifyCause → List ℕ
+name_of_verify_cause verify.NotBuilt = codes "NotBuilt"
+name_of_verify_cause verify.BadHierarchy = codes "BadHierarchy"
+name_of_verify_cause verify.BadLayout = codes "BadLayout"
+name_of_verify_cause verify.BadConstraint = codes "BadConstraint"
+name_of_verify_cause verify.MissingImplementation = codes "MissingImplementation"
+name_of_verify_cause verify.TooManySlots = codes "TooManySlots"
+name_of_verify_cause verify.BadMember = codes "BadMember"
+name_of_verify_cause verify.TooManyClauses = codes "TooManyClauses"
+name_of_verify_cause verify.BadFlow = codes "BadFlow"
+name_of_verify_cause verify.Underflow = codes "Underflow"
+name_of_verify_cause verify.BadMerge = codes "BadMerge"
+name_of_verify_cause verify.BadType = codes "BadType"
+name_of_verify_cause verify.TooManyPlaces = codes "TooManyPlaces"
+name_of_verify_cause verify.TooManyEntries = codes "TooManyEntries"
+
+-- the line of a text that is refused
+abbrev pub refusal_line : TextRefusal → List ℕ
+refusal_line (Verifier spot c) = line (codes "Text " ++ place_of spot ++ codes " " ++ name_of_verify_cause c)
+refusal_line (Parser f) = line (codes "Text " ++ place_of f.spot ++ codes " " ++ name_of_cause f.cause)
+refusal_line Form = line (codes "Text 1:1 FirstForm")
+
+-- the line of a program that is accepted: how many classes and methods it has besides those of the library
+abbrev pub accepted_line : Program → List ℕ
+accepted_line p =
+    line (codes "Accepted " ++ decimal (length p.classes - length library_classes) ++ codes " classes " ++
+    decimal (length p.methods - length library_methods) ++ codes " methods")
 
 abbrev pub file_line : List ℕ → List ℕ
 file_line name = line (codes "File " ++ name)

@@ -1,16 +1,16 @@
-// The words of the one command, `exec F @all 0 TURNS`. They are judged without memory.
+// The words of a command, `exec F @all 0 TURNS` or `check F`. They are judged without memory.
 ghost use Rattle.std.specs.Prelude.{◌≡◌, ◌≤◌, ◌↔◌, ◌⊎◌, ℕ, List, IfSome, IfNone, IsTrue, slice_index};
-ghost use Rattle.run_top.specs.Command.{IsCommand, IsPlainWord, IsUsage, SpellsTurns};
+ghost use Rattle.run_top.specs.Command.{IsCheck, IsCommand, IsExec, IsPlainWord, IsUsage, SpellsTurns};
 
 use mn_outside::Name;
 
 // The most turns that a command may ask for.
 const MOST_TURNS: u32 = 4000000;
 
-// The file and the number of turns of a command.
-pub(crate) fn command(words: &[Name]) -> Option<(&str, u32)>
-    ensures some { IfSome result (λ found. IsCommand words.now found.0.now found.1) }
-    ensures none { IfNone result (IsUsage words.now) }
+// The file and the number of turns of `exec`.
+fn exec(words: &[Name]) -> Option<(&str, u32)>
+    ensures some { IfSome result (λ found. IsExec words.now found.0.now found.1) }
+    ensures none { IfNone result ((name : List ℕ) (turns : ℕ) → ¬ IsExec words.now name turns) }
 {
     let [exec, file, all, seed, turns] = words else {
         return None;
@@ -24,6 +24,33 @@ pub(crate) fn command(words: &[Name]) -> Option<(&str, u32)>
     }
     let limit = turns_of(turns.text())?;
     Some((name, limit))
+}
+
+// The file of `check`.
+fn check(words: &[Name]) -> Option<&str>
+    ensures some { IfSome result (λ name. IsCheck words.now name.now) }
+    ensures none { IfNone result ((name : List ℕ) → ¬ IsCheck words.now name) }
+{
+    let [check, file] = words else {
+        return None;
+    };
+    if !is_word(check, "check") {
+        return None;
+    }
+    let name = file.text();
+    if is_plain(name) { Some(name) } else { None }
+}
+
+/// The file of a command, and how many turns its program is run for; None where it is only checked.
+pub(crate) fn command(words: &[Name]) -> Option<(&str, Option<u32>)>
+    ensures some { IfSome result (λ found. IsCommand words.now found.0.now found.1) }
+    ensures none { IfNone result (IsUsage words.now) }
+{
+    if let Some(name) = check(words) {
+        return Some((name, None));
+    }
+    let (name, limit) = exec(words)?;
+    Some((name, Some(limit)))
 }
 
 // Whether a word is this text.

@@ -1,10 +1,10 @@
 // From instructions to code words.
 ghost use Rattle.std.specs.Prelude.{◌≡◌, ◌≤◌, ◌+◌, ◌*◌, ◌++◌, [], ◌∷◌, IfOk, OnOk, map};
 ghost use Rattle.rv_isa.specs.Word.{word_of};
-ghost use Rattle.il_model.specs.WellFormed.{AllFind, FindsOperands, depth_after};
+ghost use Rattle.run_top.specs.WellFormed.{AllFind, FindsOperands, depth_after};
 ghost use Rattle.run_top.specs.Code.{image_of, offset, op_code};
 
-use il_model::FirstOp;
+use crate::first::FirstOp;
 use rv_isa::{Imm12, Imm20, Instr, Reg, encode};
 use std::alloc::{AllocError, Global};
 

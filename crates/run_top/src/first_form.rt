@@ -1,190 +1,149 @@
-// From a text to its program.
-ghost use Rattle.std.specs.Prelude.{◌≡◌, ◌≢◌, ◌∷◌, [], ◌<◌, ◌↔◌, ℕ, ℤ, List, IsTrue, IfSome, IfNone, IfOk, codes, length, ◌==◌, not};
-ghost use Rattle.std.specs.List.{list_all};
-ghost use Rattle.il_model.specs.declared.first.FirstOp.{FirstOp};
-ghost use Rattle.run_top.specs.FirstWords.{Lexeme, lexeme, lexemes, is_class_name, is_method_name};
-ghost use Rattle.run_top.specs.FirstForm.{IsPush, IsOp, AreOps, IsProgram, IsFirstForm};
+// Programs of the first form: one class with one static method, which adds int32 constants and prints them.
+ghost use Rattle.std.specs.Prelude.{◌≡◌, List, Option, Some, None, IfOk, IfSome, IfNone, option_copied};
+ghost use Rattle.run_top.specs.declared.first.FirstOp.{FirstOp};
+ghost use Rattle.run_top.specs.FirstForm.{IsFirstForm, first_body, first_code, has_one_method, is_first_class, is_first_class_at, is_object, one_body, op_of, ops_of};
 
-use crate::first_words::{after, after_class_name, after_int32, after_method_name};
-use il_model::{FirstOp, FirstProgram};
-use il_text::{Token, TokenKind, tokens};
-use mn_outside::{NoMemory, Refused};
-use std::alloc::Global;
+use crate::first::{FirstOp, is_well_formed};
+use il_model::{Body, ClassDef, ClassKind, MethodDef, Op, Program, Shape};
+use mn_outside::NoMemory;
+use std::alloc::{AllocError, Global};
+use type_tree::{Head, TExpr, TNode};
 
-// The tokens after the head of a class.
-fn after_class<'a>(text: &[u8], tokens: &'a [Token]) -> Option<&'a [Token]>
-    ensures some { IfSome result (λ rest. (name : List ℕ) × IsTrue (is_class_name name)
-        × (lexemes text.now tokens.now ≡ lexeme TokenKind.Word (codes ".class") ∷ lexeme TokenKind.Word name ∷ lexeme TokenKind.Mark (codes "{") ∷ lexemes text.now rest.now)) }
-    ensures none { IfNone result ((name : List ℕ) (rest : List Lexeme) → IsTrue (is_class_name name)
-        → lexemes text.now tokens.now ≢ lexeme TokenKind.Word (codes ".class") ∷ lexeme TokenKind.Word name ∷ lexeme TokenKind.Mark (codes "{") ∷ rest) }
+// The classes and the methods of the library, behind which stand those of the text.
+const LIBRARY_CLASSES: usize = 13;
+
+const LIBRARY_METHODS: usize = 12;
+
+// The instruction of the first form that this one is, if it is one.
+fn first_op(op: &Op) -> Option<FirstOp>
+    ensures { result ≡ op_of op.now }
 {
-    let tokens = after(text, tokens, TokenKind::Word, b".class")?;
-    let tokens = after_class_name(text, tokens)?;
-    let rest = after(text, tokens, TokenKind::Mark, b"{")?;
-    Some(rest)
-}
-
-// The tokens after the words before a method's name.
-fn after_method<'a>(text: &[u8], tokens: &'a [Token]) -> Option<&'a [Token]>
-    ensures some { IfSome result (λ rest.
-        lexemes text.now tokens.now ≡ lexeme TokenKind.Word (codes ".method") ∷ lexeme TokenKind.Word (codes "static") ∷ lexeme TokenKind.Word (codes "void") ∷ lexemes text.now rest.now) }
-    ensures none { IfNone result ((rest : List Lexeme) →
-        lexemes text.now tokens.now ≢ lexeme TokenKind.Word (codes ".method") ∷ lexeme TokenKind.Word (codes "static") ∷ lexeme TokenKind.Word (codes "void") ∷ rest) }
-{
-    let tokens = after(text, tokens, TokenKind::Word, b".method")?;
-    let tokens = after(text, tokens, TokenKind::Word, b"static")?;
-    let rest = after(text, tokens, TokenKind::Word, b"void")?;
-    Some(rest)
-}
-
-// The tokens after a method's name, up to the instructions.
-fn after_entrypoint<'a>(text: &[u8], tokens: &'a [Token]) -> Option<&'a [Token]>
-    ensures some { IfSome result (λ rest. (name : List ℕ) × IsTrue (is_method_name name)
-        × (lexemes text.now tokens.now ≡ lexeme TokenKind.Word name ∷ lexeme TokenKind.Mark (codes "(") ∷ lexeme TokenKind.Mark (codes ")") ∷ lexeme TokenKind.Mark (codes "{") ∷ lexeme TokenKind.Word (codes ".entrypoint") ∷ lexemes text.now rest.now)) }
-    ensures none { IfNone result ((name : List ℕ) (rest : List Lexeme) → IsTrue (is_method_name name)
-        → lexemes text.now tokens.now ≢ lexeme TokenKind.Word name ∷ lexeme TokenKind.Mark (codes "(") ∷ lexeme TokenKind.Mark (codes ")") ∷ lexeme TokenKind.Mark (codes "{") ∷ lexeme TokenKind.Word (codes ".entrypoint") ∷ rest) }
-{
-    let tokens = after_method_name(text, tokens)?;
-    let tokens = after(text, tokens, TokenKind::Mark, b"(")?;
-    let tokens = after(text, tokens, TokenKind::Mark, b")")?;
-    let tokens = after(text, tokens, TokenKind::Mark, b"{")?;
-    let rest = after(text, tokens, TokenKind::Word, b".entrypoint")?;
-    Some(rest)
-}
-
-// The tokens after the words of the call that prints.
-fn after_print<'a>(text: &[u8], tokens: &'a [Token]) -> Option<&'a [Token]>
-    ensures some { IfSome result (λ rest. IsOp FirstOp.Print (lexemes text.now tokens.now) (lexemes text.now rest.now)) }
-    ensures none { IfNone result ((rest : List Lexeme) → ¬ IsOp FirstOp.Print (lexemes text.now tokens.now) rest) }
-{
-    let tokens = after_callee(text, tokens)?;
-    let tokens = after(text, tokens, TokenKind::Mark, b"(")?;
-    let tokens = after(text, tokens, TokenKind::Word, b"int32")?;
-    let rest = after(text, tokens, TokenKind::Mark, b")")?;
-    Some(rest)
-}
-
-// The tokens after the call that prints, up to its parameters.
-fn after_callee<'a>(text: &[u8], tokens: &'a [Token]) -> Option<&'a [Token]>
-    ensures some { IfSome result (λ rest. lexemes text.now tokens.now ≡ lexeme TokenKind.Word (codes "call") ∷ lexeme TokenKind.Word (codes "void") ∷ lexeme TokenKind.Word (codes "System.Console")
-        ∷ lexeme TokenKind.Mark (codes "::") ∷ lexeme TokenKind.Word (codes "WriteLine") ∷ lexemes text.now rest.now) }
-    ensures none { IfNone result ((rest : List Lexeme) → lexemes text.now tokens.now ≢ lexeme TokenKind.Word (codes "call") ∷ lexeme TokenKind.Word (codes "void")
-        ∷ lexeme TokenKind.Word (codes "System.Console") ∷ lexeme TokenKind.Mark (codes "::") ∷ lexeme TokenKind.Word (codes "WriteLine") ∷ rest) }
-{
-    let tokens = after(text, tokens, TokenKind::Word, b"call")?;
-    let tokens = after(text, tokens, TokenKind::Word, b"void")?;
-    let tokens = after(text, tokens, TokenKind::Word, b"System.Console")?;
-    let tokens = after(text, tokens, TokenKind::Mark, b"::")?;
-    let rest = after(text, tokens, TokenKind::Word, b"WriteLine")?;
-    Some(rest)
-}
-
-// The int32 that is pushed in front, and the tokens after it.
-fn after_push<'a>(text: &[u8], tokens: &'a [Token]) -> Option<(i32, &'a [Token])>
-    ensures some { IfSome result (λ found. IsPush (lexemes text.now tokens.now) found.0 (lexemes text.now found.1.now)) }
-    ensures none { IfNone result ((n : ℤ) (rest : List Lexeme) → ¬ IsPush (lexemes text.now tokens.now) n rest) }
-{
-    let tokens = after(text, tokens, TokenKind::Word, b"ldc.i4")?;
-    after_int32(text, tokens)
-}
-
-// The instruction in front, and the tokens after it.
-fn op_at<'a>(text: &[u8], tokens: &'a [Token]) -> Option<(FirstOp, &'a [Token])>
-    ensures some { IfSome result (λ found. IsOp found.0 (lexemes text.now tokens.now) (lexemes text.now found.1.now)) }
-    ensures none { IfNone result ((op : FirstOp) (rest : List Lexeme) → ¬ IsOp op (lexemes text.now tokens.now) rest) }
-    ensures shorter { IfSome result (λ found. length found.1.now < length tokens.now) }
-{
-    if let Some((n, rest)) = after_push(text, tokens) {
-        return Some((FirstOp::Push(n), rest));
-    }
-    if let Some(rest) = after(text, tokens, TokenKind::Word, b"add") {
-        return Some((FirstOp::Add, rest));
-    }
-    if let Some(rest) = after_print(text, tokens) {
-        return Some((FirstOp::Print, rest));
-    }
-    let rest = after(text, tokens, TokenKind::Word, b"ret")?;
-    Some((FirstOp::Ret, rest))
-}
-
-// Whether the two braces that end the text are left.
-fn is_end(text: &[u8], tokens: &[Token]) -> bool
-    ensures { IsTrue result ↔ AreOps [] (lexemes text.now tokens.now) }
-{
-    match after(text, tokens, TokenKind::Mark, b"}") {
-        Some(rest) => match after(text, rest, TokenKind::Mark, b"}") {
-            Some(end) => end.is_empty(),
-            None => false,
-        },
-        None => false,
+    match op {
+        Op::LdcI4(number) => Some(FirstOp::Push(*number)),
+        Op::Add => Some(FirstOp::Add),
+        Op::WriteLineInt32 => Some(FirstOp::Print),
+        Op::Ret => Some(FirstOp::Ret),
+        _ => None,
     }
 }
 
-// The instructions, up to the two braces that end the text.
-fn ops(alloc: Global, text: &[u8], tokens: &[Token]) -> Result<Option<Vec<FirstOp>>, NoMemory>
-    ensures some { IfOk result (λ found. IfSome found (λ code. AreOps code.items (lexemes text.now tokens.now))) }
-    ensures none { IfOk result (λ found. IfNone found ((code : List FirstOp) → ¬ AreOps code (lexemes text.now tokens.now))) }
-    ensures only { IfOk result (λ found. IfSome found (λ code. (others : List FirstOp) → AreOps others (lexemes text.now tokens.now) → others ≡ code.items)) }
+// The instructions of the first form that these are, if each is one.
+fn first_ops(alloc: Global, code: &[Op]) -> Result<Option<Vec<FirstOp>>, AllocError>
+    ensures some { IfOk result (λ found. IfSome found (λ ops. ops_of code.now ≡ Some ops.items)) }
+    ensures none { IfOk result (λ found. IfNone found (ops_of code.now ≡ None)) }
 {
-    let mut code = Vec::new(alloc);
-    let mut rest = tokens;
-    while !is_end(text, rest) {
-        let Some((op, next)) = op_at(text, rest) else {
+    let mut ops = Vec::new(alloc);
+    for op in code {
+        let Some(first) = first_op(op) else {
             return Ok(None);
         };
-        if code.push(op).is_err() {
-            return Err(NoMemory);
-        }
-        rest = next;
+        ops.push(first)?;
     }
-    Ok(Some(code))
+    Ok(Some(ops))
 }
 
-// The instructions of the one method that the tokens spell.
-fn sentence(alloc: Global, text: &[u8], tokens: &[Token]) -> Result<Option<Vec<FirstOp>>, NoMemory>
-    ensures some { IfOk result (λ found. IfSome found (λ code. IsProgram (lexemes text.now tokens.now) code.items)) }
-    ensures none { IfOk result (λ found. IfNone found ((code : List FirstOp) → ¬ IsProgram (lexemes text.now tokens.now) code)) }
-    ensures only { IfOk result (λ found. IfSome found (λ code. (others : List FirstOp) → IsProgram (lexemes text.now tokens.now) others → others ≡ code.items)) }
+// Whether the type is `object`.
+fn is_object(kind: &TExpr) -> bool
+    ensures { result ≡ is_object kind.now }
 {
-    let Some(rest) = after_class(text, tokens) else {
-        return Ok(None);
-    };
-    let Some(rest) = after_method(text, rest) else {
-        return Ok(None);
-    };
-    let Some(rest) = after_entrypoint(text, rest) else {
-        return Ok(None);
-    };
-    ops(alloc, text, rest)
+    match kind.top() {
+        TNode::Node(Head::Class(number), parts) => *number == 0 && parts.is_empty(),
+        _ => false,
+    }
 }
 
-// Whether no byte of a text is a slash, so that it has no comment.
-fn has_no_slash(text: &[u8]) -> bool
-    ensures { result ≡ list_all (λ b. not (b == 47)) text.now }
+// Whether the class is plain, with the base `object`, and has neither type variables, interfaces nor fields.
+fn is_first_class(class: &ClassDef) -> bool
+    ensures { result ≡ is_first_class class.now }
 {
-    text.iter().all(|b| *b != b'/')
+    let Some(base) = &class.base else {
+        return false;
+    };
+    is_object(base)
+        && class.kind == ClassKind::Plain
+        && class.vars.is_empty()
+        && class.interfaces.is_empty()
+        && class.fields.is_empty()
 }
 
-/// The program that a text of the first form spells.
-pub(crate) fn first_form(alloc: Global, text: &[u8]) -> Result<Option<FirstProgram>, NoMemory>
-    ensures some { IfOk result (λ found. IfSome found (λ program. IsFirstForm text.now program.code.items)) }
-    ensures none { IfOk result (λ found. IfNone found ((code : List FirstOp) → ¬ IsFirstForm text.now code)) }
-    ensures only { IfOk result (λ found. IfSome found (λ program. (others : List FirstOp) → IsFirstForm text.now others → others ≡ program.code.items)) }
+// The body of a static method without type variables, parameters and result, if it has neither locals nor clauses.
+fn first_body(method: &MethodDef) -> Option<&Body>
+    ensures { option_copied result ≡ first_body method.now }
 {
-    if !has_no_slash(text) {
+    if method.shape != Shape::Fixed
+        || !method.vars.is_empty()
+        || !method.params.is_empty()
+        || method.result.is_some()
+    {
+        return None;
+    }
+    let Some(body) = &method.body else {
+        return None;
+    };
+    if body.locals.is_empty() && body.clauses.is_empty() {
+        Some(body)
+    } else {
+        None
+    }
+}
+
+fn is_first_class_at(class: Option<&ClassDef>) -> bool
+    ensures { result ≡ is_first_class_at (option_copied class.entry) }
+{
+    match class {
+        None => false,
+        Some(class) => is_first_class(class),
+    }
+}
+
+// Whether one class and one method stand behind those of the library, with which the program begins.
+fn has_one_method(program: &Program) -> bool
+    ensures { result ≡ has_one_method program.now }
+{
+    program.classes.len() == LIBRARY_CLASSES + 1
+        && program.methods.len() == LIBRARY_METHODS + 1
+        && program.main == 12
+        && is_first_class_at(program.classes.as_slice().get(LIBRARY_CLASSES))
+}
+
+// The body of the one method.
+fn one_body(program: &Program) -> Option<&Body>
+    ensures { option_copied result ≡ one_body program.now }
+{
+    if !has_one_method(program) {
+        return None;
+    }
+    let Some(method) = program.methods.as_slice().get(LIBRARY_METHODS) else {
+        return None;
+    };
+    first_body(method)
+}
+
+// The instructions of a program, where all are of the first form.
+fn first_code(alloc: Global, program: &Program) -> Result<Option<Vec<FirstOp>>, AllocError>
+    ensures some { IfOk result (λ found. IfSome found (λ ops. first_code program.now ≡ Some ops.items)) }
+    ensures none { IfOk result (λ found. IfNone found (first_code program.now ≡ None)) }
+{
+    let Some(body) = one_body(program) else {
+        return Ok(None);
+    };
+    let found = first_ops(alloc, body.code.as_slice())?;
+    Ok(found)
+}
+
+/// The instructions of a program of the first form, if it is one.
+pub(crate) fn first_form(alloc: Global, program: &Program) -> Result<Option<Vec<FirstOp>>, NoMemory>
+    ensures some { IfOk result (λ found. IfSome found (λ ops. IsFirstForm program.now ops.items)) }
+    ensures none { IfOk result (λ found. IfNone found ((ops : List FirstOp) → ¬ IsFirstForm program.now ops)) }
+{
+    let Ok(found) = first_code(alloc, program) else {
+        return Err(NoMemory);
+    };
+    let Some(ops) = found else {
+        return Ok(None);
+    };
+    if !is_well_formed(ops.as_slice()) {
         return Ok(None);
     }
-    let found = match tokens(alloc, text) {
-        Ok(found) => found,
-        Err(Refused::Fault(_)) => return Ok(None),
-        Err(Refused::NoMemory) => return Err(NoMemory),
-    };
-    let Some(code) = sentence(alloc, text, found.as_slice())? else {
-        return Ok(None);
-    };
-    let program = FirstProgram { code };
-    if !program.is_well_formed() {
-        return Ok(None);
-    }
-    Ok(Some(program))
+    Ok(Some(ops))
 }

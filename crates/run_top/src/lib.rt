@@ -1,15 +1,16 @@
-//! The top call: the command, the first form of a text, its code words, the machine that runs them, and the lines.
+//! The top call: the command, the program of a text, its code words, the machine that runs them, and the lines.
 #![tactic(auto)]
 
 mod command;
 mod compile;
-mod first_form;
-mod first_number;
 #[cfg(test)]
-mod first_tests;
-mod first_words;
+mod depth_tests;
+mod first;
+mod first_form;
 mod machine;
+mod places;
 mod record;
+mod refusal;
 mod run;
 #[cfg(test)]
 mod sum;
@@ -19,5 +20,7 @@ mod top;
 mod turns;
 mod written;
 
+pub use first::FirstOp;
 pub use record::{Outcome, RunRecord, Turn};
+pub use refusal::TextRefusal;
 pub use top::aot_main;

@@ -1,5 +1,5 @@
 // What the top call answers.
-use il_model::FirstProgram;
+use cil_verify::Verified;
 use interaction::What;
 use store_object::{Ending, Event};
 
@@ -10,10 +10,10 @@ pub struct Turn {
     pub what: What,
 }
 
-/// A run that came to an ending, with the program and the image that it is of.
+/// A run that came to an ending, with the accepted program and the image that it is of.
 #[derive(Drop)]
 pub struct RunRecord {
-    pub program: FirstProgram,
+    pub program: Verified,
     /// The code words, of which word i stands at 65,536 + 4i.
     pub image: Vec<u32>,
     /// Each turn, in order.

@@ -1,7 +1,7 @@
 // A whole run of an image.
 ghost use Rattle.std.specs.Prelude.{◌≡◌, ◌+◌, ◌*◌, ◌≤◌, ◌++◌, [], ◌∷◌, IfOk, OnOk, length};
 ghost use Rattle.interaction.specs.History.{Legal};
-ghost use Rattle.il_model.specs.WellFormed.{IsWellFormed};
+ghost use Rattle.run_top.specs.WellFormed.{IsWellFormed};
 ghost use Rattle.store_object.specs.Answer.{answer};
 ghost use Rattle.store_object.specs.Replay.{noted, replayed, store};
 ghost use Rattle.run_top.specs.Process.{begin, meaning, naming};
@@ -12,10 +12,11 @@ ghost use Rattle.run_top.specs.Run.{IsRegular, IsRun, image_run};
 ghost use Rattle.run_top.specs.Executed.{AllExecuted, AllFirst, EndsSo};
 
 use crate::compile::compile;
+use crate::first::{FirstOp, deepest_stack};
 use crate::machine::{Core, Gave, Mode};
 use crate::record::{RunRecord, Turn};
 use crate::turns::turn;
-use il_model::FirstProgram;
+use cil_verify::Verified;
 use interaction::What;
 use mn_outside::NoMemory;
 use std::alloc::{AllocError, Global};
@@ -122,30 +123,31 @@ fn run(alloc: Global, image: &[u32], words: usize, limit: u32) -> Result<Kept, N
     })
 }
 
-/// Compiles a program and runs its image from Main on, under seed 0, for at most `limit` turns.
-/// There is no machine fault: a run ends where its thread has finished or its turns are used up.
+/// Compiles the instructions of a program of the first form and runs the image from Main on, under seed 0, for at
+/// most `limit` turns. There is no machine fault: a run ends where its thread has finished or its turns are used up.
 /// The only refusal is want of memory.
 pub(crate) fn run_program(
     alloc: Global,
-    program: FirstProgram,
+    program: Verified,
+    ops: &[FirstOp],
     limit: u32,
 ) -> Result<RunRecord, NoMemory>
-    requires program { IsWellFormed program.code.items }
-    ensures program { IfOk result (λ r. r.program.code.items ≡ program.code.items) }
-    ensures image { IfOk result (λ r. r.image.items ≡ image_of program.code.items) }
+    requires program { IsWellFormed ops.now }
+    ensures program { IfOk result (λ r. r.program ≡ program) }
+    ensures image { IfOk result (λ r. r.image.items ≡ image_of ops.now) }
 
     // Turns, history and ending are those of the image's run.
-    ensures run { IfOk result (λ r. IsRun (image_run r.image.items (frame_words program.code.items) limit) r.turns.items r.history.items r.ending) }
+    ensures run { IfOk result (λ r. IsRun (image_run r.image.items (frame_words ops.now) limit) r.turns.items r.history.items r.ending) }
 
     // The program's thread makes exactly these requests when it is given these replies, which the store gives.
-    ensures legal { IfOk result (λ r. Legal store naming (meaning program.code.items) begin r.history.items) }
+    ensures legal { IfOk result (λ r. Legal store naming (meaning ops.now) begin r.history.items) }
     ensures requests { IfOk result (λ r. AllFirst r.history.items) }
     ensures executed { IfOk result (λ r. AllExecuted r.image.items r.turns.items) }
     ensures ends { IfOk result (λ r. EndsSo limit r.turns.items r.history.items r.ending) }
-    ensures few { IfOk result (λ r. length r.turns.items ≤ 1024 * (length program.code.items + 1)) }
+    ensures few { IfOk result (λ r. length r.turns.items ≤ 1024 * (length ops.now + 1)) }
 {
-    let words = 8 + program.deepest_stack() + 16;
-    let Ok(image) = compile(alloc, program.code.as_slice()) else {
+    let words = 8 + deepest_stack(ops) + 16;
+    let Ok(image) = compile(alloc, ops) else {
         return Err(NoMemory);
     };
     let kept = run(alloc, image.as_slice(), words, limit)?;

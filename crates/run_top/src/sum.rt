@@ -1,9 +1,12 @@
 // The turns of the sum of 2 and 3, written out from the code words by hand.
+use crate::first::{FirstOp, is_well_formed};
 use crate::record::Turn;
 use crate::run::run_program;
-use il_model::{FirstOp, FirstProgram};
+use cil_verify::Verified;
+use il_model::Program;
 use interaction::What;
-use std::alloc::{AllocError, Global};
+use sqlite_items::Items;
+use std::alloc::Global;
 use std::process::Abort;
 use std::test::Fail;
 use store_object::{Ending, Form, Request};
@@ -55,17 +58,25 @@ const TURNS: [What; 19] = [
     What::Action,
 ];
 
-fn sum(alloc: Global) -> Result<FirstProgram, AllocError> {
-    let code = [
-        FirstOp::Push(2),
-        FirstOp::Push(3),
-        FirstOp::Add,
-        FirstOp::Print,
-        FirstOp::Ret,
-    ];
-    Ok(FirstProgram {
-        code: code.to_vec(alloc)?,
-    })
+const SUM: [FirstOp; 5] = [
+    FirstOp::Push(2),
+    FirstOp::Push(3),
+    FirstOp::Add,
+    FirstOp::Print,
+    FirstOp::Ret,
+];
+
+// What a run keeps as its program, which it doesn't look at.
+fn empty(alloc: Global) -> Verified {
+    Verified {
+        program: Program {
+            classes: Items::new(alloc),
+            methods: Items::new(alloc),
+            literals: Items::new(alloc),
+            main: 0,
+        },
+        states: Items::new(alloc),
+    }
 }
 
 fn expect_turns(rt: &impl Abort, turns: &[Turn]) {
@@ -84,9 +95,8 @@ fn expect_run(
     ending: Ending,
     events: usize,
 ) -> Result<(), Fail> {
-    let program = sum(alloc)?;
-    assert!(rt; program.is_well_formed());
-    let run = run_program(alloc, program, limit).expect(rt, "memory");
+    assert!(rt; is_well_formed(SUM.as_slice()));
+    let run = run_program(alloc, empty(alloc), SUM.as_slice(), limit).expect(rt, "memory");
     assert!(rt; run.image.as_slice() == IMAGE.as_slice());
     assert_eq!(rt; run.turns.len(), limit.min(19) as usize);
     expect_turns(rt, run.turns.as_slice());

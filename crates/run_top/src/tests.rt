@@ -119,7 +119,7 @@ fn a_stack_is_at_most_120_deep(rt: HostRuntime) -> Result<(), Fail> {
     let deeper = ones(alloc, 121)?;
     let left = run(alloc, WHOLE, deeper.as_str(), &[], &[])?;
     assert_eq!(rt; left.outcome.status, 2);
-    assert!(rt; has_written(&left, "Text 1:1 FirstForm\n"));
+    assert!(rt; has_written(&left, "Text 1:12 TooManyPlaces\n"));
     Ok(())
 }
 
@@ -159,6 +159,10 @@ fn other_words_are_no_command(rt: HostRuntime) -> Result<(), Fail> {
     let text = program(alloc, "")?;
     let commands = [
         "",
+        "check",
+        "check p.il 1",
+        "check -p.il",
+        "Check p.il",
         "exec p.il",
         "exec p.il @all 0",
         "exec p.il @all 0 1 1",
@@ -184,34 +188,160 @@ fn other_words_are_no_command(rt: HostRuntime) -> Result<(), Fail> {
 }
 
 #[test]
-fn texts_one_step_outside_the_form(rt: HostRuntime) -> Result<(), Fail> {
+fn refused_texts_are_answered_with_their_places(rt: HostRuntime) -> Result<(), Fail> {
     let alloc = rt.alloc();
     let texts = [
-        "",
-        ".class P {",
-        ".class P { .method static void Main() { .entrypoint ret } } }",
-        ".class P { .method static void Main() { .entrypoint } }",
-        ".class P { .method static void Main() { .entrypoint ret ret } }",
-        ".class P { .method static void Main() { ret } }",
-        ".class P { .method void Main() { .entrypoint ret } }",
-        ".class P { .method static int32 Main() { .entrypoint ret } }",
-        ".class P { .method static void Main(int32) { .entrypoint ret } }",
-        ".class P { .method static void Main() { .entrypoint ret } } // and a comment",
-        ".class P { .field int32 f .method static void Main() { .entrypoint ret } }",
-        ".class P<T> { .method static void Main() { .entrypoint ret } }",
-        ".class P { .method static void Main() { .entrypoint L: ret } }",
-        ".class P { .method static void Main() { .entrypoint ldc.i4 1 ret } }",
-        ".class P { .method static void Main() { .entrypoint add ret } }",
-        ".class P { .method static void Main() { .entrypoint ldc.i4 0x1 call void System.Console::WriteLine(int32) ret } }",
-        ".class P { .method static void Main() { .entrypoint ldc.i4 2147483648 call void System.Console::WriteLine(int32) ret } }",
-        ".class P { .method static void Main() { .entrypoint ldc.i4 1 call void System.Console::WriteLine(int64) ret } }",
-        ".class P { .method static void Main() { .entrypoint ldc.i4.1 call void System.Console::WriteLine(int32) ret } }",
+        ("", "Text 1:1 NoEntry\n"),
+        (".class P {", "Text 1:11 Syntax\n"),
+        (
+            ".class P { .method static void Main() { .entrypoint ret } } }",
+            "Text 1:61 Syntax\n",
+        ),
+        (
+            ".class P { .method static void Main() { .entrypoint } }",
+            "Text 1:12 BadMember\n",
+        ),
+        (
+            ".class P { .method static void Main() { .entrypoint ret ret } }",
+            "Text 1:1 FirstForm\n",
+        ),
+        (
+            ".class P { .method static void Main() { ret } }",
+            "Text 1:48 NoEntry\n",
+        ),
+        (
+            ".class P { .method void Main() { .entrypoint ret } }",
+            "Text 1:34 Syntax\n",
+        ),
+        (
+            ".class P { .method static int32 Main() { .entrypoint ret } }",
+            "Text 1:42 Syntax\n",
+        ),
+        (
+            ".class P { .method static void Main(int32) { .entrypoint ret } }",
+            "Text 1:46 Syntax\n",
+        ),
+        (
+            ".class P<T> { .method static void Main() { .entrypoint ret } }",
+            "Text 1:44 Syntax\n",
+        ),
+        (
+            ".class P { .method static void Main() { .entrypoint ret } .method static void f() { .entrypoint ret } }",
+            "Text 1:85 Repeated\n",
+        ),
+        (
+            ".class P { .method static void Main() { .entrypoint br L ret } }",
+            "Text 1:56 UnknownName\n",
+        ),
+        (
+            ".class P { .method static void Main() { .entrypoint rethrow } }",
+            "Text 1:53 Unsupported\n",
+        ),
+        (
+            ".class P { .method static void Main() { .entrypoint # } }",
+            "Text 1:53 BadByte\n",
+        ),
+        (
+            ".class P { .field int32 f .method static void Main() { .entrypoint ret } }",
+            "Text 1:1 FirstForm\n",
+        ),
+        (
+            ".class P extends System.Exception { .method static void Main() { .entrypoint ret } }",
+            "Text 1:1 FirstForm\n",
+        ),
+        (
+            ".class Q { } .class P { .method static void Main() { .entrypoint ret } }",
+            "Text 1:1 FirstForm\n",
+        ),
+        (
+            ".class P { .method static void Main() { .entrypoint ldc.i4 1 ret } }",
+            "Text 1:62 Underflow\n",
+        ),
+        (
+            ".class P { .method static void Main() { .entrypoint add ret } }",
+            "Text 1:53 Underflow\n",
+        ),
+        (
+            ".class P { .method static void Main() { .entrypoint .locals init (int32) ret } }",
+            "Text 1:1 FirstForm\n",
+        ),
+        (
+            ".class P { .method static void Main() { .entrypoint ldc.i4 2147483648 call void System.Console::WriteLine(int32) ret } }",
+            "Text 1:60 Syntax\n",
+        ),
+        (
+            ".class P { .method static void Main() { .entrypoint ldc.i4 1 call void System.Console::WriteLine(int64) ret } }",
+            "Text 1:62 BadType\n",
+        ),
     ];
-    for text in texts {
+    for (text, line) in texts {
         let left = run(alloc, WHOLE, text, &[], &[])?;
         assert_eq!(rt; left.outcome.status, 2, "{text}");
-        assert!(rt; has_written(&left, "Text 1:1 FirstForm\n"), "{text}");
+        assert!(rt; has_written(&left, line), "{text}");
         assert!(rt; left.outcome.kept.is_none(), "{text}");
+    }
+    Ok(())
+}
+
+// `check` counts what the text defines, and names the verifier's first refusal.
+#[test]
+fn texts_are_checked(rt: HostRuntime) -> Result<(), Fail> {
+    let alloc = rt.alloc();
+    let sum = format!(in alloc; "ldc.i4 2 ldc.i4 3 add {W}")?;
+    let sum = program(alloc, sum.as_str())?;
+    let wide = program(alloc, "ldc.i4 1 ldc.i8 1 add pop")?;
+    let cases = [
+        (sum.as_str(), 0, "Accepted 1 classes 1 methods\n"),
+        (wide.as_str(), 2, "Text 1:71 BadType\n"),
+        ("", 2, "Text 1:1 NoEntry\n"),
+        (".class P {", 2, "Text 1:11 Syntax\n"),
+        (
+            ".class Q { .method int32 f() { ldc.i4 1 ret } } .class P { .method static void Main() { .entrypoint ret } }",
+            0,
+            "Accepted 2 classes 2 methods\n",
+        ),
+        (
+            ".class Q extends Q { } .class P { .method static void Main() { .entrypoint ret } }",
+            2,
+            "Text 1:1 BadHierarchy\n",
+        ),
+        (
+            ".class Q<T> { } .class P { .method static void Main() { .entrypoint ret } }",
+            2,
+            "Text 1:1 NotBuilt\n",
+        ),
+    ];
+    for (text, status, written) in cases {
+        let left = run(alloc, "check p.il", text, &[], &[])?;
+        assert_eq!(rt; left.outcome.status, status, "{text}");
+        assert!(rt; has_written(&left, written), "{text}");
+        assert!(rt; left.outcome.kept.is_none(), "{text}");
+    }
+    Ok(())
+}
+
+// Comments, hexadecimal digits, labels and short spellings are of the grammar, and change no program.
+#[test]
+fn other_spellings_of_the_form_run(rt: HostRuntime) -> Result<(), Fail> {
+    let alloc = rt.alloc();
+    let texts = [
+        (
+            ".class P { .method static void Main() { .entrypoint L: ret } }",
+            "",
+        ),
+        (
+            ".class P extends object { .method static void Main() { .entrypoint ret } } // and a comment",
+            "",
+        ),
+        (
+            ".class P { .method static void Main() { .entrypoint ldc.i4 0x10 ldc.i4.m1 add call void System.Console::WriteLine(int32) ret } }",
+            "15\n",
+        ),
+    ];
+    for (text, written) in texts {
+        let left = run(alloc, WHOLE, text, &[], &[])?;
+        assert_eq!(rt; left.outcome.status, 0, "{text}");
+        assert!(rt; has_written(&left, written), "{text}");
     }
     Ok(())
 }

@@ -1,37 +1,114 @@
 // The top call: words, file, text, program, run, lines.
-ghost use Rattle.std.specs.Prelude.{◌≡◌, ◌≢◌, ◌≤◌, ◌⊎◌, ◌↔◌, ℕ, List, Option, Some, None, Err, IfOk, IfSome, IfNone, IsSomeAnd};
+ghost use Rattle.std.specs.Prelude.{◌≡◌, ◌≢◌, ◌≤◌, ◌⊎◌, ◌↔◌, ℕ, List, Option, Some, None, Ok, Err, IfOk, IfSome, IfNone, IsSomeAnd};
 ghost use Rattle.std.specs.Io.KnownBytes.{Appends};
 ghost use Rattle.mn_outside.specs.Causes.{AppendsPrefix, AppendsTwo, Holds, NeverFall, Rose};
 ghost use Rattle.mn_outside.specs.declared.outside.Refused.TheVariants.{Fault};
+ghost use Rattle.il_parse.specs.Answer.{IsAnswer};
+ghost use Rattle.run_top.specs.declared.first.FirstOp.{FirstOp};
+ghost use Rattle.run_top.specs.declared.refusal.TextRefusal.{TextRefusal};
+ghost use Rattle.run_top.specs.declared.refusal.TextRefusal.TheVariants.{Form};
 ghost use Rattle.run_top.specs.declared.top.Refusal.TheVariants.{File, Text};
+ghost use Rattle.run_top.specs.FirstForm.{IsFirstForm};
 ghost use Rattle.run_top.specs.Command.{IsCommand, IsUsage};
-ghost use Rattle.run_top.specs.Headline.{IsKept, IsRefusalStatus, IsRefused, IsRunOf, IsRunStatus, IsStatus, IsUncut, Refuses, RefusesText, RunsText};
-ghost use Rattle.run_top.specs.Written.{Answers, file_line as the_file_line, first_form_line, no_memory_line, shown, status_of as the_status_of, usage_line};
+ghost use Rattle.run_top.specs.Headline.{AcceptsText, Gives, IsFound, IsJudged, IsKept, IsPlainStatus, IsProgramRun, IsRefusalStatus, IsStatus, IsUncut, RefusedBy, RefusesText};
+ghost use Rattle.run_top.specs.Written.{Answers, file_line as the_file_line, no_memory_line, shown, status_of as the_status_of, usage_line};
 
 use crate::command::command;
 use crate::first_form::first_form;
+use crate::places::spot_in;
 use crate::record::{Outcome, RunRecord};
+use crate::refusal::{TextRefusal, refusal_line};
 use crate::run::run_program;
-use crate::written::{FIRST_FORM, NO_MEMORY, USAGE, file_line, put, show_run, status_of};
+use crate::written::{NO_MEMORY, USAGE, accepted_line, file_line, put, show_run, status_of};
+use cil_verify::{Verified, fits_numbers, verify};
+use il_parse::parse;
 use mn_outside::{Failed, Files, Name, NoMemory, Refused, Sink};
 use std::alloc::Global;
 
 // Why a command has no run.
 #[derive(Clone, Copy, Debug, PartialEq, Eq)]
 pub(crate) enum Refusal {
-    Text,
+    Text(TextRefusal),
     File,
 }
 
-// The run of the program in a file's text.
-fn run_file<F: Files>(
+// What a command finds in a text that isn't refused: a program that is accepted, or its run.
+#[derive(Drop)]
+pub(crate) enum Found {
+    Accepted(Verified),
+    Ran(RunRecord),
+}
+
+// The program of a text, where the verifier accepts it.
+fn judge(alloc: Global, text: &[u8]) -> Result<Verified, Refused<TextRefusal>>
+    ensures judged { IfOk result (λ v. IsJudged text.now v) }
+    ensures refused { (why : TextRefusal) → result ≡ Err (Fault why) → (turns : Option ℕ) → RefusedBy (IsAnswer text.now) turns why }
+{
+    let parsed = match parse(alloc, text) {
+        Ok(parsed) => parsed,
+        Err(Refused::Fault(fault)) => return Err(Refused::Fault(TextRefusal::Parser(fault))),
+        Err(Refused::NoMemory) => return Err(Refused::NoMemory),
+    };
+    let classes = parsed.program.classes.len();
+    if !fits_numbers(&parsed.program) {
+        return Err(Refused::NoMemory);
+    }
+    match verify(alloc, parsed.program) {
+        Ok(verified) => Ok(verified),
+        Err(Refused::Fault(fault)) => {
+            let spot = spot_in(parsed.spots.as_slice(), classes, fault.at);
+            Err(Refused::Fault(TextRefusal::Verifier(spot, fault.cause)))
+        }
+        Err(Refused::NoMemory) => Err(Refused::NoMemory),
+    }
+}
+
+// The run of a program that is accepted.
+fn run_judged(
+    alloc: Global,
+    program: Verified,
+    limit: u32,
+) -> Result<RunRecord, Refused<TextRefusal>>
+    ensures run { IfOk result (λ r. IsProgramRun limit program r) }
+    ensures refused { (why : TextRefusal) → result ≡ Err (Fault why) → (why ≡ Form) × ((ops : List FirstOp) → ¬ IsFirstForm program.program ops) }
+{
+    match first_form(alloc, &program.program) {
+        Ok(Some(ops)) => match run_program(alloc, program, ops.as_slice(), limit) {
+            Ok(run) => Ok(run),
+            Err(NoMemory) => Err(Refused::NoMemory),
+        },
+        Ok(None) => Err(Refused::Fault(TextRefusal::Form)),
+        Err(NoMemory) => Err(Refused::NoMemory),
+    }
+}
+
+// What a command finds in a text.
+fn carry_out(alloc: Global, text: &[u8], turns: Option<u32>) -> Result<Found, Refused<TextRefusal>>
+    ensures found { IfOk result (IsFound turns text.now) }
+    ensures refused { (why : TextRefusal) → result ≡ Err (Fault why) → RefusedBy (IsAnswer text.now) turns why }
+{
+    let program = match judge(alloc, text) {
+        Ok(program) => program,
+        Err(refused) => return Err(refused),
+    };
+    let Some(limit) = turns else {
+        return Ok(Found::Accepted(program));
+    };
+    match run_judged(alloc, program, limit) {
+        Ok(run) => Ok(Found::Ran(run)),
+        Err(refused) => Err(refused),
+    }
+}
+
+// What a command finds in a file's text.
+fn carry_out_file<F: Files>(
     alloc: Global,
     name: &str,
-    limit: u32,
+    turns: Option<u32>,
     files: &mut F,
-) -> Result<RunRecord, Refused<Refusal>>
-    ensures run { IfOk result (IsRunOf (F.held files.old) name.now limit) }
-    ensures text { result ≡ Err (Fault Text) → (text : List ℕ) × Holds (F.held files.old) name.now text × IsRefused text }
+) -> Result<Found, Refused<Refusal>>
+    ensures found { IfOk result (λ found. (text : List ℕ) × Holds (F.held files.old) name.now text × IsFound turns text found) }
+    ensures text { (why : TextRefusal) → result ≡ Err (Fault (Text why)) → (text : List ℕ) × Holds (F.held files.old) name.now text × RefusedBy (IsAnswer text) turns why }
     ensures file { result ≡ Err (Fault File) → Rose (F.read_faults files.old name.now) (F.read_faults files.new name.now) }
     ensures held { F.held files.new ≡ F.held files.old }
     ensures reads { NeverFall (F.read_faults files.old) (F.read_faults files.new) }
@@ -42,20 +119,16 @@ fn run_file<F: Files>(
         Err(Refused::Fault(Failed)) => return Err(Refused::Fault(Refusal::File)),
         Err(Refused::NoMemory) => return Err(Refused::NoMemory),
     };
-    let program = match first_form(alloc, bytes.as_slice()) {
-        Ok(Some(program)) => program,
-        Ok(None) => return Err(Refused::Fault(Refusal::Text)),
-        Err(NoMemory) => return Err(Refused::NoMemory),
-    };
-    match run_program(alloc, program, limit) {
-        Ok(run) => Ok(run),
-        Err(NoMemory) => Err(Refused::NoMemory),
+    match carry_out(alloc, bytes.as_slice(), turns) {
+        Ok(found) => Ok(found),
+        Err(Refused::Fault(why)) => Err(Refused::Fault(Refusal::Text(why))),
+        Err(Refused::NoMemory) => Err(Refused::NoMemory),
     }
 }
 
 // The answer of a command that made no run, with the line of its cause.
-fn refuse<K: Sink>(status: u8, line: &str, out: &mut K) -> Outcome
-    requires { IsRefusalStatus status }
+fn reply<K: Sink>(status: u8, line: &str, out: &mut K) -> Outcome
+    requires { IsPlainStatus status }
     ensures kept { result.kept ≡ None }
     ensures answers { Answers (K.written out.old) (K.written out.new) (K.faults out.old) (K.faults out.new) line.now status result.status }
 {
@@ -98,11 +171,13 @@ fn no_memory<K: Sink>(kept: Option<RunRecord>, out: &mut K) -> Outcome
     Outcome { status: 10, kept }
 }
 
-/// The whole program: `exec F @all 0 TURNS`, where `words` are those after the program's name.
-/// It reads the text of F, compiles its program, runs the image for at most TURNS turns, and writes what the run
-/// shows, a line at a time. A text that isn't in the first form is refused.
-/// Status 0 is a run that came to its end, and 5 one that was cut at TURNS; 1 `Usage`; 2 `Text 1:1 FirstForm`;
-/// 8 `File NAME`; 9 a fault of the sink; 10 `No memory`, the one answer without a cause.
+/// The whole program: `exec F @all 0 TURNS` or `check F`, where `words` are those after the program's name.
+/// `exec` reads the text of F, compiles its program, runs the image for at most TURNS turns, and writes what the run
+/// shows, a line at a time. `check` writes how many classes and methods the program has. A text is refused at its first
+/// fault, a program at the verifier's first refusal, and `exec` refuses a program that isn't of the first form whole.
+/// Status 0 is a run that came to its end or a program that is accepted, and 5 a run that was cut at TURNS; 1 `Usage`;
+/// 2 `Text L:C CAUSE` with line and column of the fault, or `Text 1:1 FirstForm`; 8 `File NAME`; 9 a fault of the
+/// sink; 10 `No memory`, the one answer without a cause.
 pub fn aot_main<F: Files, K: Sink>(
     alloc: Global,
     words: &[Name],
@@ -111,31 +186,32 @@ pub fn aot_main<F: Files, K: Sink>(
 ) -> Outcome
     ensures status { IsStatus result.status }
 
-    // A run that is kept is the image machine's, of the program that the file's text spells, and its history is legal.
+    // A run that is kept is the image machine's, of the program that the file's text spells, which the verifier accepts,
+    // and its history is legal.
     ensures kept { IfSome result.kept (IsKept words.now (F.held files.old)) }
 
     // What a run shows is written, and the status is that of its ending.
-    ensures done { IsRunStatus result.status → IsSomeAnd result.kept (λ r. (result.status ≡ the_status_of r.ending)
+    ensures done { IsUncut result.status → IfSome result.kept (λ r. (result.status ≡ the_status_of r.ending)
         × Appends (K.written out.old) (K.written out.new) (shown r)) }
 
-    // 1, 2 and 8 have their cause, and its line is written. There is no run.
-    ensures cause { IsRefusalStatus result.status → (line : List ℕ)
-        × Refuses words.now (F.held files.old) (F.read_faults files.old) (F.read_faults files.new) result.status line
-        × Appends (K.written out.old) (K.written out.new) line }
+    // Without a run the status has its cause, and its line is written.
+    ensures cause { IsUncut result.status → IfNone result.kept ((line : List ℕ)
+        × Gives words.now (F.held files.old) (F.read_faults files.old) (F.read_faults files.new) result.status line
+        × Appends (K.written out.old) (K.written out.new) line) }
     ensures none { IsRefusalStatus result.status → result.kept ≡ None }
 
     // Where neither the sink nor the memory cut the answer short, 1 comes exactly where the words are no command, and
-    // of a file that could be read, 2 exactly where no program has its text.
+    // of a file that could be read, 2 exactly where its text is refused.
     ensures usage { IsUncut result.status → ((result.status ≡ 1) ↔ IsUsage words.now) }
     ensures refused { RefusesText words.now (F.held files.old) result.status }
-    ensures runs { RunsText words.now (F.held files.old) result.status }
+    ensures accepts { AcceptsText words.now (F.held files.old) result.status }
 
     // 9 comes only from a fault of the sink, after a prefix of what the run shows, or of the line of another cause.
     ensures fault { result.status ≡ 9 → Rose (K.faults out.old) (K.faults out.new) }
     ensures front { result.status ≡ 9 → IfSome result.kept (λ r.
         AppendsPrefix (K.written out.old) (K.written out.new) (shown r)) }
     ensures front_none { result.status ≡ 9 → IfNone result.kept ((status : ℕ) × (line : List ℕ)
-        × Refuses words.now (F.held files.old) (F.read_faults files.old) (F.read_faults files.new) status line
+        × Gives words.now (F.held files.old) (F.read_faults files.old) (F.read_faults files.new) status line
         × AppendsPrefix (K.written out.old) (K.written out.new) line) }
 
     // At 10 such a prefix was written, or nothing, and then a prefix of the line for it.
@@ -144,7 +220,7 @@ pub fn aot_main<F: Files, K: Sink>(
     ensures short_none { result.status ≡ 10 → IfNone result.kept (
         AppendsPrefix (K.written out.old) (K.written out.new) no_memory_line
         ⊎ ((status : ℕ) × (line : List ℕ)
-        × Refuses words.now (F.held files.old) (F.read_faults files.old) (F.read_faults files.new) status line
+        × Gives words.now (F.held files.old) (F.read_faults files.old) (F.read_faults files.new) status line
         × AppendsTwo (K.written out.old) (K.written out.new) line no_memory_line)) }
 
     // No file changes, and without a command none is touched. No count falls.
@@ -154,14 +230,21 @@ pub fn aot_main<F: Files, K: Sink>(
     ensures writes { NeverFall (F.write_faults files.old) (F.write_faults files.new) }
     ensures faults { K.faults out.old ≤ K.faults out.new }
 {
-    let Some((name, limit)) = command(words) else {
-        return refuse(1, USAGE, out);
+    let Some((name, turns)) = command(words) else {
+        return reply(1, USAGE, out);
     };
-    match run_file(alloc, name, limit, files) {
-        Ok(run) => finish(alloc, run, out),
-        Err(Refused::Fault(Refusal::Text)) => refuse(2, FIRST_FORM, out),
+    match carry_out_file(alloc, name, turns, files) {
+        Ok(Found::Ran(run)) => finish(alloc, run, out),
+        Ok(Found::Accepted(verified)) => match accepted_line(alloc, &verified.program) {
+            Ok(line) => reply(0, line.as_str(), out),
+            Err(NoMemory) => no_memory(None, out),
+        },
+        Err(Refused::Fault(Refusal::Text(why))) => match refusal_line(alloc, why) {
+            Ok(line) => reply(2, line.as_str(), out),
+            Err(NoMemory) => no_memory(None, out),
+        },
         Err(Refused::Fault(Refusal::File)) => match file_line(alloc, name) {
-            Ok(line) => refuse(8, line.as_str(), out),
+            Ok(line) => reply(8, line.as_str(), out),
             Err(NoMemory) => no_memory(None, out),
         },
         Err(Refused::NoMemory) => no_memory(None, out),

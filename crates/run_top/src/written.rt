@@ -1,20 +1,20 @@
 // What is written: a line for each print, and the line of each status.
-ghost use Rattle.std.specs.Prelude.{◌≡◌, ◌++◌, IfOk, string_bytes};
+ghost use Rattle.std.specs.Prelude.{◌≡◌, ◌++◌, IfOk, codes, string_bytes};
+ghost use Rattle.std.specs.Fmt.{decimal};
 ghost use Rattle.mn_outside.specs.Causes.{Wrote};
 ghost use Rattle.store_object.specs.declared.request.Form.TheVariants.{Number};
 ghost use Rattle.store_object.specs.declared.request.Request.TheVariants.{Print as Printed};
 ghost use Rattle.run_top.specs.History.{line_of, output};
 ghost use Rattle.run_top.specs.Written.{ending_line, line, shown};
-ghost use Rattle.run_top.specs.Written.{file_line as the_file_line, status_of as the_status_of};
+ghost use Rattle.run_top.specs.Written.{accepted_line as the_accepted_line, file_line as the_file_line, status_of as the_status_of};
 
 use crate::record::RunRecord;
+use il_model::Program;
 use mn_outside::{Failed, NoMemory, Refused, Sink};
 use std::alloc::{AllocError, Global};
 use store_object::{Ending, Event, Form, Request};
 
 pub(crate) const USAGE: &str = "Usage\n";
-
-pub(crate) const FIRST_FORM: &str = "Text 1:1 FirstForm\n";
 
 pub(crate) const NO_MEMORY: &str = "No memory\n";
 
@@ -45,6 +45,32 @@ fn joined(alloc: Global, first: &str, second: &str) -> Result<String, AllocError
     joined.push_str(second)?;
     joined.push_str("\n")?;
     Ok(joined)
+}
+
+// The words of a program that is accepted, with so many classes and methods.
+fn accepted_words(alloc: Global, classes: usize, methods: usize) -> Result<String, AllocError>
+    ensures { IfOk result (λ words. string_bytes words ≡ line (codes "Accepted " ++ decimal classes ++ codes " classes " ++ decimal methods ++ codes " methods")) }
+{
+    let mut words = String::from_str(alloc, "Accepted ")?;
+    let classes = classes.to_string(alloc)?;
+    words.push_str(classes.as_str())?;
+    words.push_str(" classes ")?;
+    let methods = methods.to_string(alloc)?;
+    words.push_str(methods.as_str())?;
+    words.push_str(" methods\n")?;
+    Ok(words)
+}
+
+/// The line of a program that is accepted, which counts what the library doesn't have.
+pub(crate) fn accepted_line(alloc: Global, program: &Program) -> Result<String, NoMemory>
+    ensures { IfOk result (λ line. string_bytes line ≡ the_accepted_line program.now) }
+{
+    let classes = program.classes.len().saturating_sub(13);
+    let methods = program.methods.len().saturating_sub(12);
+    match accepted_words(alloc, classes, methods) {
+        Ok(line) => Ok(line),
+        Err(_) => Err(NoMemory),
+    }
 }
 
 // The line of a printed word.

@@ -19,7 +19,7 @@ module _ (test : TExpr → Bool) where
   has_of_any P (y ∷ xs) e go =
       elim (true_of_two (test y) (list_any test xs) e) [ inl here ↦ go y (inl refl) here | inr r ↦ has_of_any P xs r (λ x h is. go x (inr h) is) ]
 
-both_true : (a b : Bool) → (a ≡ true → b ≡ true) → (b ≡ true → a ≡ true) → a ≡ b
+pub both_true : (a b : Bool) → (a ≡ true → b ≡ true) → (b ≡ true → a ≡ true) → a ≡ b
 both_true true true f g = refl
 both_true true false f g = let no : false ≡ true = f refl in cc
 both_true false true f g = g refl

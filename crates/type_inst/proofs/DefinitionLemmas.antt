@@ -1,5 +1,5 @@
 -- A class's definition, and how few variables the rule on hierarchies leaves it.
-use Rattle.std.proofs.Common.{◌≡◌, ℕ, zero, suc, ◌+◌, ◌*◌, ◌<◌, ◌≤◌, Bool, true, false, ◌||◌, nat_lt, List, [], ◌∷◌, ◌++◌, length, map, take, get_or, slice_get, Option, Some, None, sum_by, refl, sym, ap, subst, ◌∙◌, arith}
+use Rattle.std.proofs.Common.{◌≡◌, ℕ, zero, suc, ◌+◌, ◌*◌, ◌<◌, ◌≤◌, Bool, true, false, ◌||◌, nat_lt, List, [], ◌∷◌, ◌++◌, length, map, take, slice_get, Some, sum_by, refl, ap, ◌∙◌, arith}
 use Rattle.std.specs.List.{list_any}
 use Rattle.std.proofs.lemmas.List.{map-append}
 use Rattle.std.proofs.lemmas.List.Sums.{sum_by-cons}
@@ -13,7 +13,7 @@ use Rattle.il_model.specs.declared.class.ClassDef.{ClassDef}
 use Rattle.il_model.specs.declared.program.Program.{Program}
 use Rattle.il_model.specs.LookUp.{numbers_from}
 use Rattle.il_model.specs.Layouts.{most_trees}
-use Rattle.il_model.specs.Admission.{is_large, closure_within, closure_of}
+use Rattle.il_model.specs.Admission.{is_large, closure_within}
 use Rattle.il_model.specs.Bases.{own_of_class, own_of}
 use Rattle.il_model.specs.ClassRules.{HasTypes}
 

@@ -10,3 +10,9 @@ pub mod SearchLemmas
 pub mod DefinitionLemmas
 pub mod SignatureLemmas
 pub mod NumberingLemmas
+pub mod SizingLemmas
+pub mod OpeningLemmas
+pub mod AdmissionLemmas
+pub mod LayingLemmas
+pub mod FedLemmas
+pub mod KnownLemmas

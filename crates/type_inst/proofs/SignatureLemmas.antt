@@ -1,5 +1,5 @@
 -- Tests of signatures decide equality.
-use Rattle.std.proofs.Common.{◌≡◌, ◌∙◌, Bool, List, Some, None, Option, ap, refl}
+use Rattle.std.proofs.Common.{◌≡◌, List, Some, None, Option, ap, refl}
 use Rattle.std.specs.Bool.{Decides}
 use Rattle.std.proofs.lemmas.Bool.Decides.{Decides-like}
 use Rattle.std.proofs.lemmas.Slice.Eq.{slice_eq-Decides}

@@ -1,5 +1,5 @@
 -- What the search for slots finds, by numbers of methods alone.
-use Rattle.std.specs.Prelude.{ℕ, List, [], ◌∷◌, map, find, slice_get, Option, Some, None, option_map, option_and_then}
+use Rattle.std.specs.Prelude.{ℕ, List, map, find, slice_get, Option, Some, None, option_map, option_and_then}
 use Rattle.type_tree.specs.declared.tree.TExpr.{TExpr}
 use Rattle.il_model.specs.declared.method.MethodDef.{MethodDef}
 use Rattle.il_model.specs.declared.layout.MethodTree.{MethodTree}

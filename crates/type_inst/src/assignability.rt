@@ -72,8 +72,8 @@ fn is_object(alloc: Global, kind: &TExpr) -> bool
     is_same(kind, &object)
 }
 
-// The type of a vector's elements.
-fn element_of(kind: &TExpr) -> Option<&TExpr>
+/// The type of a vector's elements.
+pub fn element_of(kind: &TExpr) -> Option<&TExpr>
     ensures { option_copied result ≡ element_of kind.now }
 {
     match kind.top() {

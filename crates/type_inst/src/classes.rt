@@ -9,8 +9,8 @@ use mn_outside::NoMemory;
 use std::alloc::Global;
 use type_tree::{Head, TExpr, TNode, subst_whole};
 
-// The arguments of a type; a variable has none.
-pub(crate) fn arguments_of(kind: &TExpr) -> &[TExpr]
+/// The arguments of a type; a variable has none.
+pub fn arguments_of(kind: &TExpr) -> &[TExpr]
     ensures { result.now ≡ arguments_of kind.now }
 {
     match kind.top() {
@@ -19,19 +19,16 @@ pub(crate) fn arguments_of(kind: &TExpr) -> &[TExpr]
     }
 }
 
-// A type of a class's definition, with the arguments of this type of the class.
-pub(crate) fn with_args_of(alloc: Global, kind: &TExpr, part: &TExpr) -> Result<TExpr, NoMemory>
+/// A type of a class's definition, with the arguments of this type of the class put for the class's
+/// variables.
+pub fn with_args_of(alloc: Global, kind: &TExpr, part: &TExpr) -> Result<TExpr, NoMemory>
     ensures { IfOk result (λ whole. whole ≡ with_args_of kind.now part.now) }
 {
     subst_whole(alloc, part, arguments_of(kind), &[])
 }
 
-// The base of a type.
-pub(crate) fn base_of(
-    alloc: Global,
-    program: &Program,
-    kind: &TExpr,
-) -> Result<Option<TExpr>, NoMemory>
+/// The base of a type: that of its class, with the type's arguments put.
+pub fn base_of(alloc: Global, program: &Program, kind: &TExpr) -> Result<Option<TExpr>, NoMemory>
     ensures { IfOk result (λ base. base ≡ base_of program.now kind.now) }
 {
     let Some(class) = class_of(program, kind) else {
@@ -53,8 +50,8 @@ fn is_reference_kind(kind: ClassKind) -> bool
     }
 }
 
-// Whether a type is a reference type.
-pub(crate) fn is_reference(program: &Program, kind: &TExpr) -> bool
+/// Whether a type is a reference type: a vector, or a class of the program that is no struct.
+pub fn is_reference(program: &Program, kind: &TExpr) -> bool
     ensures { result ≡ is_reference program.now kind.now }
 {
     match kind.top() {

@@ -6,7 +6,7 @@ ghost use Rattle.il_model.specs.Trees.{with_new};
 ghost use Rattle.il_model.specs.Admission.{is_large};
 ghost use Rattle.type_inst.specs.Reaching.{spread_one, Reached};
 
-use crate::equality::is_among;
+use crate::known::{Kinds, add};
 use crate::steps::{put, steps_of};
 use il_model::Program;
 use mn_outside::NoMemory;
@@ -27,13 +27,13 @@ pub(crate) fn reached(
     if is_large(root) {
         return Ok(None);
     }
-    let mut all: Items<TExpr> = Items::new(alloc);
-    put(&mut all, root.copy(alloc)?)?;
+    let mut all = Kinds::new(alloc);
+    add(alloc, &mut all, root)?;
     let mut fresh: Items<TExpr> = Items::new(alloc);
     put(&mut fresh, root.copy(alloc)?)?;
     for _ in 0..levels {
         if fresh.is_empty() {
-            return Ok(Some(all));
+            return Ok(Some(all.into_items(alloc)?));
         }
         let next = spread(alloc, program, &mut all, fresh.as_slice())?;
         if has_large(next.as_slice()) {
@@ -41,7 +41,7 @@ pub(crate) fn reached(
         }
         fresh = next;
     }
-    Ok(Some(all))
+    Ok(Some(all.into_items(alloc)?))
 }
 
 // Puts the steps from these types at the end of the list, those listed passed over. The result are copies
@@ -49,7 +49,7 @@ pub(crate) fn reached(
 fn spread(
     alloc: Global,
     program: &Program,
-    all: &mut Items<TExpr>,
+    all: &mut Kinds,
     fresh: &[TExpr],
 ) -> Result<Items<TExpr>, NoMemory>
     ensures steps { OnOk result (all.new ≡ fold (spread_one program.now) all.old fresh.now) }
@@ -66,7 +66,7 @@ fn spread(
 // Puts those that aren't in the list at its end, and at the end of a second list.
 fn put_new(
     alloc: Global,
-    all: &mut Items<TExpr>,
+    all: &mut Kinds,
     next: &mut Items<TExpr>,
     steps: &[TExpr],
 ) -> Result<(), NoMemory>
@@ -81,17 +81,16 @@ fn put_new(
 
 fn put_one(
     alloc: Global,
-    all: &mut Items<TExpr>,
+    all: &mut Kinds,
     next: &mut Items<TExpr>,
     each: &TExpr,
 ) -> Result<(), NoMemory>
     ensures joined { OnOk result (all.new ≡ with_new all.old each.now) }
     ensures put { OnOk result ((front : List TExpr) → all.old ≡ front ++ next.old → all.new ≡ front ++ next.new) }
 {
-    if is_among(all.as_slice(), each) {
+    if !add(alloc, all, each)? {
         return Ok(());
     }
-    all.push(each.copy(alloc)?).map_err(|_| NoMemory)?;
     next.push(each.copy(alloc)?).map_err(|_| NoMemory)
 }
 

@@ -5,14 +5,15 @@ ghost use Rattle.il_model.specs.Trees.{is_among};
 
 use type_tree::TExpr;
 
-pub(crate) fn is_same(first: &TExpr, second: &TExpr) -> bool
+/// Whether two types are equal.
+pub fn is_same(first: &TExpr, second: &TExpr) -> bool
     ensures { result ≡ is_same first.now second.now }
 {
     first.same(second)
 }
 
-// Whether the type is one of the list.
-pub(crate) fn is_among(kinds: &[TExpr], kind: &TExpr) -> bool
+/// Whether the type is one of the list.
+pub fn is_among(kinds: &[TExpr], kind: &TExpr) -> bool
     ensures { result ≡ is_among kinds.now kind.now }
 {
     for each in kinds {

@@ -5,7 +5,7 @@ ghost use Rattle.il_model.specs.ClassRules.{HasTypes};
 ghost use Rattle.type_inst.specs.Listing.{listed, listed_one, listed_own, listed_base};
 
 use crate::classes::{base_of, with_args_of};
-use crate::equality::is_among;
+use crate::known::{Kinds, add};
 use il_model::{Program, class_of};
 use mn_outside::NoMemory;
 use sqlite_items::Items;
@@ -18,9 +18,9 @@ pub fn interfaces(alloc: Global, program: &Program, tree: &Tree) -> Result<Items
     requires { HasTypes program.now }
     ensures { IfOk result (λ all. all ≡ interfaces_of program.now tree.now) }
 {
-    let mut all: Items<TExpr> = Items::new(alloc);
+    let mut all = Kinds::new(alloc);
     list(alloc, program, &mut all, tree, program.classes.len())?;
-    Ok(all)
+    all.into_items(alloc)
 }
 
 // Puts the interfaces of a type, so many levels far, at the end of the list, passing over those listed.
@@ -28,7 +28,7 @@ pub fn interfaces(alloc: Global, program: &Program, tree: &Tree) -> Result<Items
 fn list(
     alloc: Global,
     program: &Program,
-    all: &mut Items<TExpr>,
+    all: &mut Kinds,
     kind: &TExpr,
     levels: usize,
 ) -> Result<(), NoMemory>
@@ -46,7 +46,7 @@ fn list(
 fn list_base(
     alloc: Global,
     program: &Program,
-    all: &mut Items<TExpr>,
+    all: &mut Kinds,
     kind: &TExpr,
     levels: usize,
 ) -> Result<(), NoMemory>
@@ -63,7 +63,7 @@ fn list_base(
 fn list_own(
     alloc: Global,
     program: &Program,
-    all: &mut Items<TExpr>,
+    all: &mut Kinds,
     kind: &TExpr,
     levels: usize,
 ) -> Result<(), NoMemory>
@@ -84,15 +84,14 @@ fn list_own(
 fn list_one(
     alloc: Global,
     program: &Program,
-    all: &mut Items<TExpr>,
+    all: &mut Kinds,
     each: TExpr,
     levels: usize,
 ) -> Result<(), NoMemory>
     ensures { OnOk result (all.new ≡ listed_one program.now levels all.old each) }
 {
-    if is_among(all.as_slice(), &each) {
+    if !add(alloc, all, &each)? {
         return Ok(());
     }
-    all.push(each.copy(alloc)?).map_err(|_| NoMemory)?;
     list(alloc, program, all, &each, levels)
 }

@@ -30,8 +30,8 @@ pub(crate) fn has_slot(shape: Shape) -> bool
     }
 }
 
-// The numbers of the methods that the class of a type has itself, in order of the text.
-pub(crate) fn own_methods_of<'a>(program: &'a Program, kind: &TExpr) -> &'a [u16]
+/// The numbers of the methods that the class of a type has itself, in order of the text.
+pub fn own_methods_of<'a>(program: &'a Program, kind: &TExpr) -> &'a [u16]
     ensures { result.now ≡ own_methods_of program.now kind.now }
 {
     match class_of(program, kind) {
@@ -40,9 +40,9 @@ pub(crate) fn own_methods_of<'a>(program: &'a Program, kind: &TExpr) -> &'a [u16
     }
 }
 
-// The number of the virtual method with the name and signature of a method of the first type's class:
-// the first in the text of the first of these types that has one.
-pub(crate) fn nearest_match(
+/// The number of the virtual method with the name and signature of a method of the first type's class: the
+/// first in the text of the first of these types that has one.
+pub fn nearest_match(
     alloc: Global,
     program: &Program,
     kind: &TExpr,

@@ -16,12 +16,12 @@ use sqlite_items::Items;
 use std::alloc::Global;
 use type_tree::TExpr;
 
-// The method that stands in each slot, and for each virtual method of the class and its bases its number
-// and the slot that it took.
+/// The method that stands in each virtual slot, and for each virtual method of the class and its bases its
+/// number and the slot that it took.
 #[derive(Drop)]
-pub(crate) struct SlotTable {
-    pub(crate) stands: Items<MethodTree>,
-    pub(crate) taken: Items<(u16, usize)>,
+pub struct SlotTable {
+    pub stands: Items<MethodTree>,
+    pub taken: Items<(u16, usize)>,
 }
 
 fn no_slots(alloc: Global) -> SlotTable
@@ -45,9 +45,10 @@ pub(crate) fn slot_taken(slots: &SlotTable, number: u16) -> Option<usize>
     None
 }
 
-// The virtual slots of a type, from so many levels. Slots are found in its definition.
+/// The virtual slots of a type, from so many levels of the hierarchy: as many as the program has classes
+/// reach all of them. Slots are found in the type's definition.
 #[cycle(virtual_slots)]
-pub(crate) fn virtual_slots(
+pub fn virtual_slots(
     alloc: Global,
     program: &Program,
     kind: &TExpr,

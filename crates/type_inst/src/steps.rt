@@ -15,13 +15,10 @@ use sqlite_items::Items;
 use std::alloc::Global;
 use type_tree::{Head, TExpr, TNode};
 
-// The types one step from a type: its base, the interfaces that its class names, and its fields of value
-// types.
-pub(crate) fn steps_of(
-    alloc: Global,
-    program: &Program,
-    kind: &TExpr,
-) -> Result<Items<TExpr>, NoMemory>
+/// The types one step from a type of its closure: its base, the interfaces that its class names, and its
+/// fields of value types, static ones too, with the arguments put. Those with a wrong number of arguments
+/// are passed over.
+pub fn steps_of(alloc: Global, program: &Program, kind: &TExpr) -> Result<Items<TExpr>, NoMemory>
     ensures { IfOk result (λ steps. steps ≡ steps_of program.now kind.now) }
 {
     let mut all = base_list(alloc, program, kind)?;
@@ -107,7 +104,11 @@ pub(crate) fn kinds_at(
 }
 
 // Those that are value types.
-fn values(alloc: Global, program: &Program, kinds: &[TExpr]) -> Result<Items<TExpr>, NoMemory>
+pub(crate) fn values(
+    alloc: Global,
+    program: &Program,
+    kinds: &[TExpr],
+) -> Result<Items<TExpr>, NoMemory>
     ensures { IfOk result (λ all. all ≡ filter (is_value program.now) kinds.now) }
 {
     let mut all: Items<TExpr> = Items::new(alloc);
@@ -132,8 +133,8 @@ fn counted(alloc: Global, program: &Program, kinds: &[TExpr]) -> Result<Items<TE
     Ok(all)
 }
 
-// Whether a type has as many arguments as its head wants, its class being one of the program.
-fn has_count(program: &Program, kind: &TExpr) -> bool
+/// Whether a type has as many arguments as its head wants, its class being one of the program.
+pub fn has_count(program: &Program, kind: &TExpr) -> bool
     ensures { result ≡ has_count program.now kind.now }
 {
     match kind.top() {
@@ -168,8 +169,8 @@ fn is_struct_kind(kind: ClassKind) -> bool
     }
 }
 
-// Whether the class of a type is a struct.
-pub(crate) fn is_struct(program: &Program, kind: &TExpr) -> bool
+/// Whether the class of a type is a struct.
+pub fn is_struct(program: &Program, kind: &TExpr) -> bool
     ensures { result ≡ is_struct_class (class_of program.now kind.now) }
 {
     match class_of(program, kind) {
@@ -178,8 +179,8 @@ pub(crate) fn is_struct(program: &Program, kind: &TExpr) -> bool
     }
 }
 
-// Whether a type is a value type.
-pub(crate) fn is_value(program: &Program, kind: &TExpr) -> bool
+/// Whether a type is a value type: a scalar or a struct. A variable is none.
+pub fn is_value(program: &Program, kind: &TExpr) -> bool
     ensures { result ≡ is_value program.now kind.now }
 {
     match kind.top() {

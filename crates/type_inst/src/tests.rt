@@ -2,6 +2,8 @@
 // by the verifier alone, so calls that ask for them are tried here on one without.
 ghost use Rattle.std.specs.Prelude.{◌≡◌, [], IfOk};
 
+mod sizes;
+
 use crate::{assignable, bases, interfaces, slots};
 use il_model::{ClassDef, ClassKind, Program};
 use mn_outside::Name;

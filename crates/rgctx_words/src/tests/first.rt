@@ -1,5 +1,5 @@
-// A small rule: the first word is always there, and each word names it.
-ghost use Rattle.std.specs.Prelude.{◌≡◌, ◌≢◌, slice_index};
+// A small rule: the first word is always there, and each held word names it.
+ghost use Rattle.std.specs.Prelude.{◌≡◌, ◌≢◌, ℕ, slice_index};
 ghost use Rattle.std.proofs.Common.{sym, ap, ◌∙◌, get_or-set_other};
 
 use crate::WordsRule;
@@ -15,11 +15,11 @@ impl WordsRule for First {
 
     ghost always = { λ i. i ≡ 0 };
 
-    ghost names = { λ i word j. j ≡ 0 };
+    ghost names = { λ cat held i. (j : ℕ) × (held j ≢ 0) × (i ≡ 0) };
 
     ghost claim_fits = { λ cat words held i word count fits within low nonzero small was may z. fits (sym (get_or-set_other words i 0 word 0 (λ e. fits (ap (slice_index words) e ∙ was))) ∙ z) };
 
     ghost always_there = { λ cat words i fits is z. fits (ap (slice_index words) (sym is) ∙ z) };
 
-    ghost named_there = { λ cat words i j low fits used named z. fits (ap (slice_index words) (sym named) ∙ z) };
+    ghost named_there = { λ cat words held i count fits within named z. fits (ap (slice_index words) (sym named.2) ∙ z) };
 }

@@ -1,6 +1,6 @@
 use Rattle.std.proofs.Common.{◌≡◌, ◌≤◌, ◌++◌, drop, map}
 use Rattle.rv_isa.specs.Word.{word_of}
-use Rattle.il_model.specs.WellFormed.{AllFind}
+use Rattle.run_top.specs.WellFormed.{AllFind}
 use Rattle.run_top.specs.Code.{image_of, instrs_of}
 use Rattle.run_top.proofs.compile.compile.Given as goal
 

@@ -1,4 +1,4 @@
-use Rattle.std.proofs.Common.{rules, ◌≡◌, Some, None, sym, ◌∙◌}
+use Rattle.std.proofs.Common.{◌≡◌, Some, None, sym, ◌∙◌}
 use Rattle.il_model.specs.Signatures.{signature_at}
 use Rattle.type_inst.specs.Matching.{own_match}
 use Rattle.type_inst.proofs.SearchLemmas.{matched_passed, matched_reached}

@@ -1,4 +1,4 @@
-use Rattle.std.proofs.Common.{◌≡◌, ℕ, get_or, sym, ◌∙◌}
+use Rattle.std.proofs.Common.{ℕ, get_or, sym, ◌∙◌}
 use Rattle.il_model.specs.Found.{method_at}
 use Rattle.il_model.specs.Signatures.{signature_at}
 use Rattle.il_model.specs.Slots.{own_methods_of, is_match}

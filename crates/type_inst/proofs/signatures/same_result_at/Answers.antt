@@ -1,4 +1,4 @@
-use Rattle.std.proofs.Common.{◌≡◌, Option, option_map, ap, ◌∙◌}
+use Rattle.std.proofs.Common.{Option, option_map, ap, ◌∙◌}
 use Rattle.type_tree.specs.declared.tree.TExpr.{TExpr}
 use Rattle.il_model.specs.Bases.{with_args_of}
 use Rattle.il_model.specs.Found.{same_result}

@@ -1,4 +1,4 @@
-use Rattle.std.proofs.Common.{◌≡◌, ◌==◌, ℕ, Bool, true, false, Option, Some, find, option_map, get_or, sym, ap, arith}
+use Rattle.std.proofs.Common.{◌≡◌, ◌==◌, ℕ, true, false, Option, Some, find, option_map, get_or, sym, ap, arith}
 use Rattle.std.proofs.lemmas.Bool.Decides.{nat_tests}
 use Rattle.type_inst.proofs.SearchLemmas.{get_or_same, find_passed, find_reached}
 use Rattle.type_inst.proofs.slotting.slot_taken.Goals as goal

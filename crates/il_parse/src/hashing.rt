@@ -1,0 +1,90 @@
+// Feeding signatures to a hash function.
+ghost use Rattle.std.specs.Prelude.{◌≡◌, fold, flat_map};
+ghost use Rattle.il_parse.specs.Signatures.{head_writes, tree_writes, param_writes, result_writes};
+
+use il_model::PType;
+use std::hash::Hasher;
+use type_tree::{Head, TExpr, TNode};
+
+fn feed_head<H: Hasher>(head: Head, state: &mut H)
+    ensures { state.new ≡ fold H.write state.old (head_writes head) }
+{
+    match head {
+        Head::Int32 => state.write_u8(0),
+        Head::Int64 => state.write_u8(1),
+        Head::Bool => state.write_u8(2),
+        Head::Vector => state.write_u8(3),
+        Head::Class(number) => {
+            state.write_u8(4);
+            state.write_u16(number);
+        }
+    }
+}
+
+#[cycle(feed)]
+#[tactic(auto, using(crate::proofs::FedLemmas::fed_node, crate::proofs::FedLemmas::fed_class_var, crate::proofs::FedLemmas::fed_method_var))]
+fn feed_tree<H: Hasher>(tree: &TExpr, state: &mut H)
+    ensures { state.new ≡ fold H.write state.old (tree_writes tree.now) }
+{
+    match tree.top() {
+        TNode::Node(head, parts) => {
+            feed_head(*head, state);
+            feed_trees(parts.as_slice(), state);
+        }
+        TNode::ClassVar(number) => {
+            state.write_u8(5);
+            state.write_u8(*number);
+        }
+        TNode::MethodVar(number) => {
+            state.write_u8(6);
+            state.write_u8(*number);
+        }
+    }
+}
+
+#[cycle(feed)]
+fn feed_trees<H: Hasher>(trees: &[TExpr], state: &mut H)
+    ensures { state.new ≡ fold H.write state.old (flat_map tree_writes trees.now) }
+{
+    for tree in trees {
+        feed_tree(tree, state);
+    }
+}
+
+fn feed_param<H: Hasher>(param: &PType, state: &mut H)
+    ensures { state.new ≡ fold H.write state.old (param_writes param.now) }
+{
+    match param {
+        PType::Value(kind) => {
+            state.write_u8(7);
+            feed_tree(kind, state);
+        }
+        PType::Pointer(kind) => {
+            state.write_u8(8);
+            feed_tree(kind, state);
+        }
+        PType::Native => state.write_u8(9),
+    }
+}
+
+/// Feeds the types of parameters.
+pub(crate) fn feed_params<H: Hasher>(params: &[PType], state: &mut H)
+    ensures { state.new ≡ fold H.write state.old (flat_map param_writes params.now) }
+{
+    for param in params {
+        feed_param(param, state);
+    }
+}
+
+/// Feeds the type of a result.
+pub(crate) fn feed_result<H: Hasher>(given: &Option<TExpr>, state: &mut H)
+    ensures { state.new ≡ fold H.write state.old (result_writes given.now) }
+{
+    match given {
+        Some(kind) => {
+            state.write_u8(11);
+            feed_tree(kind, state);
+        }
+        None => state.write_u8(10),
+    }
+}

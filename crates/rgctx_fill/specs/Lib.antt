@@ -1,0 +1,15 @@
+pub mod Spelled
+pub mod Leaves
+pub mod Nodes
+pub mod Templates
+pub mod NamedValues
+pub mod Fitting
+pub mod Claims
+pub mod Reading
+pub mod Turns
+pub mod SpelledLaws
+pub mod PlaceLaws
+pub mod GrowthLaws
+pub mod ClaimLaws
+pub mod LeafLaws
+pub mod Predefined

@@ -1,0 +1,20 @@
+//! The rule of the context words: what a node and an entry name, which words may stand together, and the readers.
+#![tactic(auto)]
+
+mod applying;
+mod beginning;
+mod fill;
+pub mod laws;
+mod reading;
+mod rule;
+mod spelled;
+mod stage;
+mod templating;
+#[cfg(test)]
+mod tests;
+
+pub use beginning::opening_words;
+pub use fill::Fill;
+pub use rule::Fits;
+pub use spelled::{NodeTemplate, NodeTree};
+pub use stage::{FillNext, FillStep, NodeStep, Region, Stage};
