@@ -12,7 +12,7 @@ fn class_of(alloc: Global, i: u32, count: u32) -> Result<String, AllocError> {
     let mut text = format!(in alloc;
         ".class C{i}<T> {{ .field !0[] items{i} .field static int32 total{i}\n"
     )?;
-    for method in 0..3u32 {
+    for method in 0..2u32 {
         let head = format!(in alloc;
             "  .method static int32 Sum{method}(int32, C{other}<object>[]) {{ .locals init (int32, C{i}<string>)\n    L0: ldarg.0 ldc.i4 -{i} add ldloc 0"
         )?;

@@ -31,8 +31,6 @@ mod named_methods;
 mod named_ops;
 mod named_params;
 mod named_program;
-#[cfg(test)]
-mod named_tests;
 mod named_types;
 mod operands;
 mod params;
@@ -41,8 +39,6 @@ mod places;
 mod placing;
 mod scope;
 mod signatures;
-#[cfg(test)]
-mod tests;
 mod types;
 mod variables;
 

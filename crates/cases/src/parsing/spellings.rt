@@ -1,5 +1,5 @@
 // Each spelling of an instruction, beside the line that it is in canonical text.
-use crate::parse;
+use il_parse::parse;
 use il_print::print;
 use std::alloc::Global;
 use std::process::Abort;

@@ -1,5 +1,5 @@
 // Where the definitions of a text stand.
-use crate::parse;
+use il_parse::parse;
 use il_text::Spot;
 use std::process::Abort;
 use std::test::Fail;

@@ -1,6 +1,7 @@
 // Each limit of a text, and the first token past it.
 use super::refusals::check_fault;
-use crate::{ParseCause, parse};
+use il_parse::{ParseCause, parse};
+use il_text::TextCause;
 use std::alloc::Global;
 use std::test::Fail;
 
@@ -120,4 +121,50 @@ fn classes_have_three_variables_and_methods_two(rt: HostRuntime) {
     check_fault(&rt, parse(alloc, text), 1, 19, ParseCause::TooMany);
     let text = b".class P { .method void f<A, B, C>() { } }";
     check_fault(&rt, parse(alloc, text), 1, 33, ParseCause::TooMany);
+}
+
+#[test]
+fn words_have_255_bytes(rt: HostRuntime) -> Result<(), Fail> {
+    let alloc = rt.alloc();
+    let text = repeated(alloc, b".class ", b"n", 255, b" { }")?;
+    check_fault(
+        &rt,
+        parse(alloc, text.as_slice()),
+        1,
+        267,
+        ParseCause::NoEntry,
+    );
+    let text = repeated(alloc, b".class ", b"n", 256, b" { }")?;
+    check_fault(
+        &rt,
+        parse(alloc, text.as_slice()),
+        1,
+        8,
+        ParseCause::Text(TextCause::LongName),
+    );
+    Ok(())
+}
+
+#[test]
+fn a_text_has_4194304_bytes(rt: HostRuntime) -> Result<(), Fail> {
+    let alloc = rt.alloc();
+    let blanks = b"                                                               \n";
+    let text = repeated(alloc, b"", blanks, 65536, b"")?;
+    assert_eq!(rt; text.len(), 4_194_304);
+    check_fault(
+        &rt,
+        parse(alloc, text.as_slice()),
+        65537,
+        1,
+        ParseCause::NoEntry,
+    );
+    let text = repeated(alloc, b"", blanks, 65536, b"\n")?;
+    check_fault(
+        &rt,
+        parse(alloc, text.as_slice()),
+        65537,
+        1,
+        ParseCause::Text(TextCause::TooLong),
+    );
+    Ok(())
 }

@@ -1,6 +1,6 @@
 // A program with generics, an interface, a clause and threads, with its parts counted by hand.
-use crate::parse;
 use il_model::{ClassKind, Op, Shape};
+use il_parse::parse;
 use il_print::print;
 use std::process::Abort;
 use std::test::Fail;
