@@ -8,4 +8,6 @@ mod limits;
 #[cfg(test)]
 mod parsing;
 #[cfg(test)]
+mod types;
+#[cfg(test)]
 mod verifying;
