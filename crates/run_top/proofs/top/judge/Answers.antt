@@ -20,7 +20,7 @@ returns-in-Err-Fault-verify-clause-refused c = λ why is turns.
     let same : Verifier c.spot_in-spot.result fault.cause ≡ why = cc in
     let refused = subst (Verifies c.in-Ok.parsed.program) (c.in-Err-Fault-verify.is ∙ ap Err c.in-Err-Fault-verify.field-0-is) c.verify.ensures in
     let spot : c.spot_in-spot.result ≡ spot_at c.in-Ok.parsed fault.at =
-        c.spot_in-spot.ensures ∙ ap (λ ss. spot_in ss c.len-classes.result fault.at) c.as_slice.ensures ∙
-        ap (λ n. spot_in c.in-Ok.parsed.spots n fault.at) c.len-classes.ensures in
+    c.spot_in-spot.ensures ∙ ap (λ ss. spot_in ss c.len-classes.result fault.at) c.as_slice.ensures ∙
+    ap (λ n. spot_in c.in-Ok.parsed.spots n fault.at) c.len-classes.ensures in
     let answer = (c.in-Ok.ensures {u = tt}).ok in
     subst (RefusedBy (IsAnswer c.args.text.now) turns) (ap (λ s. Verifier s fault.cause) (sym spot) ∙ same) (by_verifier turns c.in-Ok.parsed fault answer refused)
