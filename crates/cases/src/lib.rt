@@ -6,8 +6,4 @@ mod checked;
 #[cfg(test)]
 mod limits;
 #[cfg(test)]
-mod parsing;
-#[cfg(test)]
-mod types;
-#[cfg(test)]
 mod verifying;

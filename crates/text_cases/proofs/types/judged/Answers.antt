@@ -1,5 +1,5 @@
-use Rattle.cases.proofs.types.judged.Goals as goal
-use Rattle.cases.proofs.Accepting.{types_of, few_of}
+use Rattle.text_cases.proofs.types.judged.Goals as goal
+use Rattle.text_cases.proofs.Accepting.{types_of, few_of}
 
 pub returns-clause-types : goal.returns-clause-types
 returns-clause-types c = types_of _ _ c.verify.ensures

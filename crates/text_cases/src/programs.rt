@@ -85,7 +85,9 @@ fn a_program_has_the_parts_that_it_spells(rt: HostRuntime) -> Result<(), Fail> {
 #[test]
 fn labels_are_numbers_of_instructions(rt: HostRuntime) -> Result<(), Fail> {
     let parsed = parse(rt.alloc(), TEXT)?;
-    let Some(body) = &parsed.program.methods.as_slice()[20].body else {
+    let methods = parsed.program.methods.as_slice();
+    assert_eq!(rt; methods.len(), 21);
+    let Some(body) = &methods[20].body else {
         assert!(rt; false, "Main has a body");
         return Ok(());
     };

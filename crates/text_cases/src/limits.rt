@@ -1,5 +1,5 @@
 // Each limit of a text, and the first token past it.
-use super::refusals::check_fault;
+use crate::refusals::check_fault;
 use il_parse::{ParseCause, parse};
 use il_text::TextCause;
 use std::alloc::Global;

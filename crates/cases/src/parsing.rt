@@ -1,6 +1,0 @@
-// Texts that parse, and texts that are refused.
-mod limits;
-mod places;
-mod programs;
-mod refusals;
-mod spellings;

@@ -1,0 +1,15 @@
+//! Tests of the parser and of types, on whole texts.
+#![tactic(auto)]
+
+#[cfg(test)]
+mod limits;
+#[cfg(test)]
+mod places;
+#[cfg(test)]
+mod programs;
+#[cfg(test)]
+mod refusals;
+#[cfg(test)]
+mod spellings;
+#[cfg(test)]
+mod types;
