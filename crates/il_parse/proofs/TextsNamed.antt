@@ -42,7 +42,7 @@ abbrev answer_or : Parsed → Result Parsed ParseFault → Parsed
 answer_or a (Ok b) = b
 answer_or a (Err f) = a
 
-one_answer : (a b : Parsed) → (let r : Result Parsed ParseFault = Ok a in r ≡ Ok b) → a ≡ b
+pub one_answer : (a b : Parsed) → (let r : Result Parsed ParseFault = Ok a in r ≡ Ok b) → a ≡ b
 one_answer a b e = ap (answer_or a) e
 
 -- what is found for the classes that a text spells is what they stand for

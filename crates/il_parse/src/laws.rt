@@ -3,12 +3,13 @@ ghost use Rattle.std.specs.Prelude.{◌≡◌, ℕ, List, Result, Ok};
 ghost use Rattle.il_text.specs.Tokens.{AreTokens};
 ghost use Rattle.il_text.specs.declared.token.Token.{Token};
 ghost use Rattle.il_model.specs.Lexemes.{lexemes_of};
-ghost use Rattle.il_model.specs.Accepted.{IsProgramText, IsWritten};
+ghost use Rattle.il_model.specs.Accepted.{IsOfText, IsProgramText, IsWritten};
+ghost use Rattle.il_model.specs.Canonical.{canonical_text};
 ghost use Rattle.il_model.specs.LookUp.{NamesProgram};
 ghost use Rattle.il_model.specs.declared.program.Program.{Program};
 ghost use Rattle.il_model.specs.declared.written.WrittenClass.{WrittenClass};
 ghost use Rattle.il_parse.specs.Accepted.{IsAccepted, Says};
-ghost use Rattle.il_parse.specs.Answer.{Parses};
+ghost use Rattle.il_parse.specs.Answer.{IsAnswer, Parses};
 ghost use Rattle.il_parse.specs.Classes.{read_program};
 ghost use Rattle.il_parse.specs.NamedClasses.{program_named};
 ghost use Rattle.il_parse.specs.declared.answer.Parsed.{Parsed};
@@ -41,4 +42,13 @@ pub fn texts_give_one_answer()
     ensures says { (text : List ℕ) (r : Result Parsed ParseFault) → Parses text r → Says text r }
     ensures given { (text : List ℕ) (a : Parsed) → IsAccepted text a → Parses text (Ok a) }
     ensures program { (text : List ℕ) (some others : List WrittenClass) (p q : Program) → IsProgramText text some p → IsProgramText text others q → p ≡ q }
+{}
+
+/// Parsing undoes printing, and printing what was parsed gives the text that was printed before: the
+/// canonical text of a program that some text gives, which has at most 4,194,304 bytes, gives just that
+/// program, with the places that its definitions have there; and what it gives prints as the same bytes. A
+/// law alone: it does nothing.
+pub fn canonical_texts_give_their_programs()
+    ensures program { (p : Program) → IsOfText p → (a : Parsed) × IsAnswer (canonical_text p) (Ok a) × (a.program ≡ p) }
+    ensures bytes { (p : Program) (a : Parsed) → IsOfText p → IsAnswer (canonical_text p) (Ok a) → canonical_text a.program ≡ canonical_text p }
 {}

@@ -32,7 +32,7 @@ pub record AreGenuine (ls : List Lexeme) : Type 0 where
   pub numbers : AllByRecursion (λ (l : Lexeme). l.kind ≡ token.Number → magnitude_of l.bytes < 2 ^ 64) ls
   pub spelled : AllByRecursion (λ (l : Lexeme). spells l.kind l.bytes ≡ true) ls
 
-all_apart : {X : Type 0} (P : X → Type 0) (xs ys : List X) → AllByRecursion P (xs ++ ys) → AllByRecursion P xs × AllByRecursion P ys
+pub all_apart : {X : Type 0} (P : X → Type 0) (xs ys : List X) → AllByRecursion P (xs ++ ys) → AllByRecursion P xs × AllByRecursion P ys
 all_apart P [] ys all = (tt, all)
 all_apart P (x ∷ xs) ys all = let r = all_apart P xs ys all.1 in ((all.0, r.0), r.1)
 

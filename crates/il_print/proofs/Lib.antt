@@ -42,3 +42,7 @@ pub mod AgainMethods
 pub mod AgainBases
 pub mod AgainHeads
 pub mod AgainClasses
+pub mod AgainLimits
+pub mod AgainEntries
+pub mod AgainGenuine
+pub mod AgainProgram

@@ -109,7 +109,7 @@ owned_spellable number (c ∷ cs) spellable = of_class number (length c.vars) (m
 
 -- ---- names
 
-all_joined : {X : Type 0} (P : X → Type 0) (xs ys : List X) → AllByRecursion P xs → AllByRecursion P ys → AllByRecursion P (xs ++ ys)
+pub all_joined : {X : Type 0} (P : X → Type 0) (xs ys : List X) → AllByRecursion P xs → AllByRecursion P ys → AllByRecursion P (xs ++ ys)
 all_joined P [] ys all more = more
 all_joined P (x ∷ xs) ys all more = (all.0, all_joined P xs ys all.1 more)
 
@@ -140,13 +140,13 @@ names_known written spellable of_class of_method =
     }
 
 -- the classes of a text have the names that are written
-own_names : (known : Known) (first : ℕ) (written : List WrittenClass) (cs : List ClassDef) → NamesClasses known first written cs →
+pub own_names : (known : Known) (first : ℕ) (written : List WrittenClass) (cs : List ClassDef) → NamesClasses known first written cs →
     map (λ c. c.name) cs ≡ map (λ c. c.name.name) written
 own_names known first written cs (no_classes f) = refl
 own_names known first written cs (more_classes f w c ws more named rest) =
     (λ i. named.name i ∷ own_names known (first + length (methods_of w.members)) ws more rest i)
 
-all_names : (written : List WrittenClass) (p : Program) → (n : NamesProgram written p) → map (λ c. c.name) p.classes ≡ (known_of written).names
+pub all_names : (written : List WrittenClass) (p : Program) → (n : NamesProgram written p) → map (λ c. c.name) p.classes ≡ (known_of written).names
 all_names written p n =
     ap (map (λ c. c.name)) n.classes_are ∙ map-append (λ c. c.name) library_classes n.own_classes
     ∙ ap (λ names. map (λ c. c.name) library_classes ++ names) (own_names (known_of written) (length library_methods) written n.own_classes n.named_classes)

@@ -4,3 +4,4 @@ pub mod Forms
 pub mod Operands
 pub mod Marks
 pub mod Parts
+pub mod Accepted

@@ -1,10 +1,9 @@
 // Whole programs.
-ghost use Rattle.std.specs.Prelude.{◌≡◌, ◌-◌, ◌^◌, ◌++◌, List, min, drop, length, flat_map, IfOk, OnOk};
-ghost use Rattle.il_text.specs.declared.token.Token.{Token};
-ghost use Rattle.il_text.specs.Tokens.{AreTokens};
+ghost use Rattle.std.specs.Prelude.{◌≡◌, ◌-◌, ◌^◌, ◌++◌, min, drop, length, flat_map, IfOk, OnOk};
 ghost use Rattle.il_model.specs.Accepted.{IsOfText};
 ghost use Rattle.il_model.specs.Library.{library_classes};
 ghost use Rattle.il_model.specs.Canonical.{canonical_text, canonical_len, class_lines};
+ghost use Rattle.il_print.specs.Accepted.{IsTextOf};
 ghost use Rattle.il_print.specs.ClassNames.{names_of};
 ghost use Rattle.il_print.specs.Parts.{lines_text};
 
@@ -22,7 +21,7 @@ const LIBRARY_CLASSES: usize = 13;
 /// what the definition says, though no text that is accepted. This project's own.
 pub fn print(alloc: Global, program: &Program) -> Result<Vec<u8>, NoMemory>
     ensures text { IfOk result (λ text. text.items ≡ canonical_text program.now) }
-    ensures tokens { IsOfText program.now → IfOk result (λ text. (tokens : List Token) × AreTokens text.items tokens) }
+    ensures accepted { IsOfText program.now → IfOk result (λ text. IsTextOf text.items program.now) }
 {
     let mut text = Text::new(alloc);
     put_classes(&mut text, program, own_classes(program))?;
