@@ -196,12 +196,22 @@ main_of known main first os ds (both o d us vs is are) fits e =
 
 -- ---- the entry point again
 
-pub entries_again : (p : Program) (known : Known) (first : ℕ) (os : List Owned) (ds : List MethodDef) → Each (StandsOwned p known) os (numbered first ds) →
-    entries_from first (map (λ (o : Owned). o.written) os) ≡ entries_at p.main (numbered first ds)
-entries_again p known first os [] end = refl
-entries_again p known first os (d ∷ ds) (both o x us xs is are) =
-    ap (λ z. z ++ entries_from (first + 1) (map (λ (u : Owned). u.written) us)) (is.entries first)
-    ∙ ap (λ z. entry_at p.main (first, d) ++ z) (entries_again p known (first + 1) us ds are)
+-- the numbers of these methods rise from this one on
+abbrev pub AreFrom : ℕ → List (ℕ × MethodDef) → Type 0
+AreFrom first [] = Unit {0}
+AreFrom first (x ∷ xs) = (x.0 ≡ first) × AreFrom (first + 1) xs
+
+pub numbered_from : (first : ℕ) (ds : List MethodDef) → AreFrom first (numbered first ds)
+numbered_from first [] = tt
+numbered_from first (d ∷ ds) = (refl, numbered_from (first + 1) ds)
+
+pub entries_again : (p : Program) (known : Known) (first : ℕ) (os : List Owned) (xs : List (ℕ × MethodDef)) → Each (StandsOwned p known) os xs → AreFrom first xs →
+    entries_from first (map (λ (o : Owned). o.written) os) ≡ entries_at p.main xs
+entries_again p known first os xs end from = refl
+entries_again p known first os xs (both o x us ys is are) from =
+    ap (λ n. map (λ (at : ℕ). n) (has_entry o.written) ++ entries_from (first + 1) (map (λ (u : Owned). u.written) us)) (sym from.0)
+    ∙ ap (λ z. z ++ entries_from (first + 1) (map (λ (u : Owned). u.written) us)) (is.entries x.0)
+    ∙ ap (λ z. entry_at p.main x ++ z) (entries_again p known (first + 1) us ys are from.1)
 
 fits_again : (known : Known) (owner of_class : ℕ) (b : Bool) (written : WrittenMethod) (m : MethodDef) → StandsFor known owner of_class b written m →
     (b ≡ true → MayBeMain of_class m) → (at : ℕ) → Contains (has_entry written) at → (of_class ≡ 0) × MayBegin written

@@ -33,7 +33,7 @@ use Rattle.il_print.proofs.AgainBodies.{each_length}
 use Rattle.il_print.proofs.AgainMethods.{IsFairKnown}
 use Rattle.il_print.proofs.AgainClasses.{numbered, AreAt, StandsAt, class_again}
 use Rattle.il_print.proofs.AgainLimits.{AreLow, class_alike, flat_same, texts_in_method, method_texts}
-use Rattle.il_print.proofs.AgainEntries.{StandsOwned, owned_methods, counts_of, owned_counts, MayBeMainAt, Beside, HasMain, main_of, entries_again, all_fit, entries_owned, owned_entries}
+use Rattle.il_print.proofs.AgainEntries.{StandsOwned, owned_methods, counts_of, owned_counts, MayBeMainAt, Beside, HasMain, main_of, numbered_from, entries_again, all_fit, entries_owned, owned_entries}
 use Rattle.il_print.proofs.AgainGenuine.{genuine_text}
 
 -- ---- lists side by side
@@ -45,29 +45,60 @@ record EachApart {A X : Type 0} (R : A → X → Type 0) (ls bs : List A) (xs : 
   first : Each R ls front
   second : Each R bs back
 
+-- the first of each, and those behind them
+record EachFirst {A X : Type 0} (R : A → X → Type 0) (a : A) (ls : List A) (xs : List X) : Type 0 where
+  first : X
+  rest : List X
+  split : xs ≡ first ∷ rest
+  is : R a first
+  are : Each R ls rest
+
+each_first : {A X : Type 0} (R : A → X → Type 0) (a : A) (ls : List A) (xs : List X) → Each R (a ∷ ls) xs → EachFirst R a ls xs
+each_first R a ls xs (both b x us ys is are) = record { first = x; rest = ys; split = refl; is = is; are = are }
+
 each_apart : {A X : Type 0} (R : A → X → Type 0) (ls bs : List A) (xs : List X) → Each R (ls ++ bs) xs → EachApart R ls bs xs
 each_apart R [] bs xs all = record { front = []; back = xs; split = refl; first = end; second = all }
-each_apart R (a ∷ ls) bs xs (both b x us ys is are) =
-    let r = each_apart R ls bs ys are in
-    record { front = x ∷ r.front; back = r.back; split = ap (λ z. x ∷ z) r.split; first = both a x ls r.front is r.first; second = r.second }
+each_apart R (a ∷ ls) bs xs all =
+    let f = each_first R a (ls ++ bs) xs all in
+    let r = each_apart R ls bs f.rest f.are in
+    record {
+      front = f.first ∷ r.front;
+      back = r.back;
+      split = f.split ∙ ap (λ z. f.first ∷ z) r.split;
+      first = both a f.first ls r.front f.is r.first;
+      second = r.second;
+    }
 
 each_joined : {A X : Type 0} (R : A → X → Type 0) (ls bs : List A) (xs ys : List X) → Each R ls xs → Each R bs ys → Each R (ls ++ bs) (xs ++ ys)
 each_joined R ls bs xs ys end more_are = more_are
 each_joined R ls bs xs ys (both a x us vs is are) more_are = both a x (us ++ bs) (vs ++ ys) is (each_joined R us bs vs ys are more_are)
 
+none_beside : {A X : Type 0} (R : A → X → Type 0) (xs : List X) → Each R [] xs → xs ≡ []
+none_beside R xs end = refl
+
 each_of_mapped : {A B X : Type 0} (R : B → X → Type 0) (f : A → B) (ls : List A) (xs : List X) → Each R (map f ls) xs → Each (λ a x. R (f a) x) ls xs
-each_of_mapped R f [] xs end = end
-each_of_mapped R f (a ∷ ls) xs (both b x us ys is are) = both a x ls ys is (each_of_mapped R f ls ys are)
+each_of_mapped R f [] xs all = subst (Each (λ a x. R (f a) x) []) (sym (none_beside R xs all)) end
+each_of_mapped R f (a ∷ ls) xs all =
+    let r = each_first R (f a) (map f ls) xs all in
+    subst (Each (λ a x. R (f a) x) (a ∷ ls)) (sym r.split) (both a r.first ls r.rest r.is (each_of_mapped R f ls r.rest r.are))
 
 each_to_mapped : {A B X : Type 0} (R : B → X → Type 0) (f : A → B) (ls : List A) (xs : List X) → Each (λ a x. R (f a) x) ls xs → Each R (map f ls) xs
 each_to_mapped R f ls xs end = end
 each_to_mapped R f ls xs (both a x us ys is are) = both (f a) x (map f us) ys is (each_to_mapped R f us ys are)
 
 -- without the numbers
+each_second : {A : Type 0} (R : A → ℕ × MethodDef → Type 0) (S : A → MethodDef → Type 0) → ((a : A) (x : ℕ × MethodDef) → R a x → S a x.1) →
+    (ls : List A) (xs : List (ℕ × MethodDef)) → Each R ls xs → Each S ls (map (λ (x : ℕ × MethodDef). x.1) xs)
+each_second R S f ls xs end = end
+each_second R S f ls xs (both a x us ys is are) = both a x.1 us (map (λ (y : ℕ × MethodDef). y.1) ys) (f a x is) (each_second R S f us ys are)
+
+second_numbered : (first : ℕ) (ds : List MethodDef) → map (λ (x : ℕ × MethodDef). x.1) (numbered first ds) ≡ ds
+second_numbered first [] = refl
+second_numbered first (d ∷ ds) = ap (λ z. d ∷ z) (second_numbered (first + 1) ds)
+
 each_unnumbered : {A : Type 0} (R : A → ℕ × MethodDef → Type 0) (S : A → MethodDef → Type 0) → ((a : A) (x : ℕ × MethodDef) → R a x → S a x.1) →
     (first : ℕ) (ls : List A) (ds : List MethodDef) → Each R ls (numbered first ds) → Each S ls ds
-each_unnumbered R S f first ls [] end = end
-each_unnumbered R S f first ls (d ∷ ds) (both a x us xs is are) = both a d us ds (f a x is) (each_unnumbered R S f (first + 1) us ds are)
+each_unnumbered R S f first ls ds all = subst (Each S ls) (second_numbered first ds) (each_second R S f ls (numbered first ds) all)
 
 written_give : {A X : Type 0} (R : A → X → Type 0) (P : A → Type 0) → ((a : A) (x : X) → R a x → P a) → (ls : List A) (xs : List X) → Each R ls xs → AllByRecursion P ls
 written_give R P f ls xs end = tt
@@ -151,7 +182,7 @@ module _ (p : Program) (known : Known) (fair : IsFairKnown known) (same : p.lite
             r.methods);
         low = all_joined (λ t. written_positions t ≤ 256) (types_of_class a.class) (flat_map types_of_class r.classes)
             ((class_alike known number f a.class c (length a.class.vars) m.front a.names named).up ((class_alike known number f w c (length w.vars) m.front is own_methods).down low_parts.0)) r.low;
-        few = (omega (arith, few.0, vars), r.few);
+        few = (subst (λ n. n ≤ 3) (sym vars) few.0, r.few);
       }
 
 -- ---- what a text declares
@@ -170,7 +201,7 @@ got P (y ∷ ys) (suc n) x all e = got P ys n x all.1 e
 
 low_counts : (cs : List WrittenClass) → AllByRecursion (λ (c : WrittenClass). length c.vars ≤ 3) cs → AllByRecursion (λ count. count < 2 ^ 64) (map (λ (c : WrittenClass). length c.vars) cs)
 low_counts [] few = tt
-low_counts (c ∷ cs) few = (omega (arith, few.0), low_counts cs few.1)
+low_counts (c ∷ cs) few = let here : length c.vars ≤ 3 = few.0 in (omega (arith, here), low_counts cs few.1)
 
 low_library : AllByRecursion (λ count. count < 2 ^ 64) (map (λ (c : ClassDef). length c.vars) library_classes)
 low_library =
@@ -324,7 +355,8 @@ text_again p of text tokens are keys =
           signatures = n.signatures;
           literals = n.literals ∙ ap (λ (k : Known). k.literals) same;
           begins = ap (entries_from (length library_methods)) (sym (owned_methods (length library_classes) r.classes))
-              ∙ entries_again p known (length library_methods) (owned_from (length library_classes) r.classes) n.own_methods r.methods ∙ main.entries;
+              ∙ entries_again p known (length library_methods) (owned_from (length library_classes) r.classes) (numbered (length library_methods) n.own_methods) r.methods
+              (numbered_from (length library_methods) n.own_methods) ∙ main.entries;
         };
         short = of.accepted.short;
       },
