@@ -216,7 +216,7 @@ entries_again p known first os xs (both o x us ys is are) from =
 fits_again : (known : Known) (owner of_class : ℕ) (b : Bool) (written : WrittenMethod) (m : MethodDef) → StandsFor known owner of_class b written m →
     (b ≡ true → MayBeMain of_class m) → (at : ℕ) → Contains (has_entry written) at → (of_class ≡ 0) × MayBegin written
 fits_again known owner of_class false written m is may at has =
-    absurd (omega (arith, has.1, ap length (is.entries 0), length-map (has_entry written) (λ (x : ℕ). 0)))
+    absurd (omega (arith, has.1, ap length (is.entries 0), length-map {B = ℕ} (has_entry written) (λ (x : ℕ). 0)))
 fits_again known owner of_class true written m is may at has =
     let main = may refl in (
       main.plain,
