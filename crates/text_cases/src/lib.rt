@@ -6,6 +6,8 @@ mod limits;
 #[cfg(test)]
 mod places;
 #[cfg(test)]
+mod printing;
+#[cfg(test)]
 mod programs;
 #[cfg(test)]
 mod refusals;
