@@ -1,0 +1,99 @@
+-- What the parser, the printer and the verifier say of a text, and what follows for the bytes of an image.
+use Rattle.std.proofs.Common.{◌≡◌, ◌∙◌, ℕ, ◌⊎◌, inl, inr, List, Option, Some, None, option_map, Result, Ok, Err, refl, sym, ap, subst}
+use Rattle.il_model.specs.declared.written.WrittenClass.{WrittenClass}
+use Rattle.il_model.specs.declared.program.Program.{Program}
+use Rattle.il_model.specs.Accepted.{IsProgramText}
+use Rattle.il_model.specs.Canonical.{canonical_text}
+use Rattle.il_model.specs.ClassRules.{HasTypes}
+use Rattle.il_parse.specs.declared.answer.Parsed.{Parsed}
+use Rattle.il_parse.specs.Accepted.{IsAccepted, IsOfNone}
+use Rattle.cil_verify.specs.declared.fault.VerifyFault.{VerifyFault}
+use Rattle.cil_verify.specs.declared.verified.Verified.{Verified}
+use Rattle.cil_verify.specs.WellTyped.{IsWellTyped}
+use Rattle.cil_verify.specs.Forms.{first_unbuilt}
+use Rattle.cil_verify.specs.Verifies.{IsVerified, IsRefused, not_built_at}
+use Rattle.cil_verify.proofs.RefusalLemmas.{refused_is_not_typed}
+use Rattle.cil_verify.proofs.Examples.{has_types}
+use Rattle.aot_image.specs.declared.image.Image.{Image}
+use Rattle.aot_image.specs.declared.image.ImageFault.{ImageFault}
+use Rattle.aot_image.specs.declared.image.ImageCause.TheVariants as cause
+use Rattle.aot_image.specs.declared.image.ReadError.{ReadError}
+use Rattle.aot_image.specs.declared.image.ReadError.TheVariants as error
+use Rattle.aot_image.specs.declared.decoding.Counts.{Counts}
+use Rattle.aot_image.specs.ImageSpelling.{ImageData}
+use Rattle.aot_image.specs.ImageReading.{Left, Read, Reads, ReadsAs, whole, fault_at, read_counts, read_bytes, read_tables}
+use Rattle.aot_image.specs.ImageForm.{IsOf, IsTextOf, IsTextOfNone, HasText, Decodes, in_head, in_text, of_text, behind_text, result_of, data_of, text_at, Gives, JudgesText}
+
+some_none : {A : Type 0} (x : A) → Some x ≡ None → ⊥
+some_none x e = cc
+
+-- ---- texts
+
+pub of_accepted : (text : List ℕ) (a : Parsed) → IsAccepted text a → IsOf text a.program
+of_accepted text a is = record { classes = is.classes; is = is.is }
+
+pub none_of_none : (text : List ℕ) → IsOfNone text → IsTextOfNone text
+none_of_none text none = λ p is. none is.classes p is.is
+
+-- the law that a text is one program at most
+abbrev pub OneProgram : Type 0
+OneProgram = (text : List ℕ) (some others : List WrittenClass) (p q : Program) → IsProgramText text some p → IsProgramText text others q → p ≡ q
+
+pub not_canonical : OneProgram → (text : List ℕ) (program : Program) → IsOf text program → (text ≡ canonical_text program → ⊥) → IsTextOfNone text
+not_canonical one text program of other =
+    λ p is. other (is.canonical ∙ ap canonical_text (one text is.classes of.classes p program is.is of.is))
+
+refused_by : (program : Program) (f : VerifyFault) → IsRefused program f → first_unbuilt program ≡ None → IsWellTyped program → ⊥
+refused_by program f (inl e) built typed = some_none f (sym e ∙ ap (option_map not_built_at) built)
+refused_by program f (inr refused) built typed = refused_is_not_typed program f refused.1 typed
+
+pub not_verified : OneProgram → (text : List ℕ) (program : Program) (f : VerifyFault) → IsOf text program → IsRefused program f → IsTextOfNone text
+not_verified one text program f of refused =
+    λ p is.
+    let same : p ≡ program = one text is.classes of.classes p program is.is of.is in
+    refused_by program f refused (ap first_unbuilt (sym same) ∙ is.built) (subst (λ (q : Program). IsWellTyped q) same is.typed)
+
+pub text_of : (text : List ℕ) (program : Program) (v : Verified) → IsOf text program → text ≡ canonical_text program → (v.program ≡ program) → IsVerified v → IsTextOf text v.program
+text_of text program v of canonical same is =
+    record {
+      classes = of.classes;
+      is = subst (λ (q : Program). IsProgramText text of.classes q) (sym same) of.is;
+      built = is.built;
+      typed = is.well_typed;
+      canonical = canonical ∙ ap canonical_text (sym same)
+    }
+
+pub judged : (text : List ℕ) (program : Program) (v : Verified) → IsOf text program → text ≡ canonical_text program → (v.program ≡ program) × IsVerified v →
+    (let r : Result Verified ReadError = Ok v in JudgesText text r)
+judged text program v of canonical both = (text_of text program v of canonical both.0 both.1, both.1)
+
+pub types_of_text : (text : List ℕ) (p : Program) → IsTextOf text p → HasTypes p
+types_of_text text p is = has_types p is.typed
+
+-- ---- bytes
+
+pub gives_head : (bytes : List ℕ) (e : ReadError) (left : Left) → (let r : Result Counts ReadError = Err e in Reads (read_counts (whole bytes)) r left) →
+    (let r : Result Image ReadError = Err e in Gives bytes r)
+gives_head bytes error.Memory left h = tt
+gives_head bytes (error.Fault f) left h = in_head f h
+
+pub gives_short : {X : Type 0} (view : X → List ℕ) (bytes : List ℕ) (counts : Counts) (front left : Left) (e : ReadError) → read_counts (whole bytes) ≡ Ok (counts, front) →
+    (let r : Result X ReadError = Err e in ReadsAs view (read_bytes counts.text front) r left) → (let r : Result Image ReadError = Err e in Gives bytes r)
+gives_short view bytes counts front left error.Memory head h = tt
+gives_short view bytes counts front left (error.Fault f) head h = in_text counts front f head h
+
+pub has_text : (bytes : List ℕ) (counts : Counts) (front : Left) (text : List ℕ) (left : Left) → read_counts (whole bytes) ≡ Ok (counts, front) →
+    read_bytes counts.text front ≡ Ok (text, left) → HasText bytes counts text left
+has_text bytes counts front text left head is = record { front = front; head = head; text_is = is }
+
+pub gives_no_text : (bytes : List ℕ) (counts : Counts) (text : List ℕ) (left : Left) (e : ReadError) → HasText bytes counts text left →
+    (let r : Result Verified ReadError = Err e in JudgesText text r) → (let r : Result Image ReadError = Err e in Gives bytes r)
+gives_no_text bytes counts text left error.Memory has h = tt
+gives_no_text bytes counts text left (error.Fault f) has h =
+    subst (λ (x : ImageFault). Decodes bytes (Err x)) (sym h.0) (of_text counts text left has h.1)
+
+pub gives_tables : (bytes : List ℕ) (counts : Counts) (text : List ℕ) (left new : Left) (p : Program) (r : Result Image ReadError) → HasText bytes counts text left → IsTextOf text p →
+    ReadsAs data_of (read_tables p counts left) r new → Gives bytes r
+gives_tables bytes counts text left new p (Ok image) has is h = behind_text counts text left p (Ok (data_of image)) has is (ap result_of h)
+gives_tables bytes counts text left new p (Err (error.Fault f)) has is h = behind_text counts text left p (Err f) has is (ap result_of h)
+gives_tables bytes counts text left new p (Err error.Memory) has is h = tt
