@@ -13,7 +13,5 @@ mod templating;
 mod tests;
 
 pub use catalogue::Catalogue;
-pub use hashing::feed_tree;
 pub use il_model::{Def, Entry};
-pub use known::Known;
 pub use templating::template;
