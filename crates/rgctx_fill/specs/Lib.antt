@@ -13,3 +13,10 @@ pub mod GrowthLaws
 pub mod ClaimLaws
 pub mod LeafLaws
 pub mod Predefined
+pub mod ThreadStates
+pub mod Accesses
+pub mod MachineTurns
+pub mod Services
+pub mod ThreadTurns
+pub mod FrameMaps
+pub mod Standing
