@@ -4,4 +4,3 @@ pub mod Regions
 pub mod Depths
 pub mod Flow
 pub mod Pass
-pub mod Plans

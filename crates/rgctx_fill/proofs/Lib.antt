@@ -7,7 +7,3 @@ pub mod ShownLaws
 pub mod EntryLaws
 pub mod TextLeaves
 pub mod OpeningWords
-pub mod FrameLemmas
-pub mod EnterLemmas
-pub mod ValueLemmas
-pub mod TurnLemmas

@@ -13,10 +13,3 @@ pub mod GrowthLaws
 pub mod ClaimLaws
 pub mod LeafLaws
 pub mod Predefined
-pub mod ThreadStates
-pub mod Accesses
-pub mod MachineTurns
-pub mod Services
-pub mod ThreadTurns
-pub mod FrameMaps
-pub mod Standing

@@ -3,7 +3,6 @@
 
 mod applying;
 mod beginning;
-mod doing;
 mod fill;
 pub mod laws;
 mod reading;
@@ -11,14 +10,11 @@ mod rule;
 mod spelled;
 mod stage;
 mod templating;
-mod thread;
 #[cfg(test)]
 mod tests;
 
 pub use beginning::opening_words;
-pub use doing::Doing;
 pub use fill::Fill;
 pub use rule::Fits;
 pub use spelled::{NodeTemplate, NodeTree};
 pub use stage::{FillNext, FillStep, NodeStep, Region, Stage};
-pub use thread::{ThreadState, Want};

@@ -37,6 +37,5 @@ pub use laying::layout;
 pub use matching::{nearest_match, own_methods_of};
 pub use numbering::implementation;
 pub use placing::slots;
-pub use sizing::capped_words;
 pub use slotting::{SlotTable, virtual_slots};
 pub use steps::{has_count, is_struct, is_value, steps_of};
