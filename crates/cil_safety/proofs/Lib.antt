@@ -1,0 +1,14 @@
+pub mod Sorts
+pub mod Fit
+pub mod Words
+pub mod Requests
+pub mod Pieces
+pub mod Types
+pub mod Numbers
+pub mod Straight
+pub mod PlaceForms
+pub mod Edges
+pub mod StraightForms
+pub mod Laws
+pub mod CallPieces
+pub mod Pointers
