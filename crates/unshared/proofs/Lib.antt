@@ -1,0 +1,15 @@
+mod Legality
+mod Naming
+mod Stacks
+mod Answering
+mod Operands
+mod Calculating
+mod References
+mod Results
+mod Stepping
+mod Begun
+mod Standing
+mod Places
+mod Reaching
+mod Counting
+mod Whole

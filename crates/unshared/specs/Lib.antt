@@ -1,0 +1,17 @@
+pub mod Listed
+pub mod Turns
+pub mod Numbers
+pub mod Runs
+pub mod Forms
+pub mod Held
+pub mod Acts
+pub mod Faults
+pub mod Calculated
+pub mod Drawn
+pub mod Growing
+pub mod Whole
+pub mod Swaps
+pub mod Living
+pub mod Standing
+pub mod Took
+pub mod Reached

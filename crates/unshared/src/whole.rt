@@ -1,0 +1,193 @@
+// The whole run.
+ghost use Rattle.std.specs.Prelude.{◌≡◌, ◌+◌, ◌++◌, ◌∷◌, [], ℕ, List, Some, drop, IfOk, OnOk};
+ghost use Rattle.type_tree.specs.declared.tree.TExpr.{TExpr as TheType};
+ghost use Rattle.interaction.specs.Object.{live_threads};
+ghost use Rattle.interaction.specs.Run.{chosen};
+ghost use Rattle.store_object.specs.Replay.{replayed, store};
+ghost use Rattle.cil_verify.specs.WellTyped.{IsWellTyped};
+ghost use Rattle.type_inst.specs.Opening.{Extends};
+ghost use Rattle.unshared.specs.Listed.{naming_of};
+ghost use Rattle.unshared.specs.Reached.{IsAt, GoesOnOrEnds};
+ghost use Rattle.std.specs.List.{last_or};
+ghost use Rattle.cil_verify.specs.Verifies.{IsVerified};
+ghost use Rattle.unshared.specs.Numbers.{HasNumbers};
+ghost use Rattle.unshared.specs.Runs.{ended_by, IsMeant};
+
+use crate::choosing::Drawing;
+use crate::started::Started;
+use crate::thread::{Thread, Turn, main_thread, started_thread};
+use crate::trees::Trees;
+use cil_verify::Verified;
+use il_model::Program;
+use mn_outside::{FaultCause, MachineFault, NoMemory};
+use sqlite_items::Items;
+use std::alloc::Global;
+use store_object::{Chooser, Ending, Event, Reply, Request, World};
+use type_tree::Tree;
+
+/// A run of the plain meaning.
+#[derive(Drop)]
+pub struct Meant {
+    /// The types that have numbers, each at its number.
+    pub trees: Items<Tree>,
+    /// The number drawn for each turn.
+    pub schedule: Vec<u32>,
+    /// The thread that took each turn.
+    pub order: Vec<u32>,
+    /// Each request with its reply, in order.
+    pub history: Vec<Event>,
+    pub ending: Ending,
+}
+
+// The end of a run that comes to a thread without a rule.
+const NO_RULE: Ending = Ending::Fault {
+    fault: MachineFault {
+        pc: 0,
+        cause: FaultCause::Break,
+    },
+};
+
+// The end of a history that lets nobody live.
+fn ended_by(history: &[Event]) -> Ending
+    ensures { result ≡ ended_by (last_or None history.now) }
+{
+    match history.last() {
+        None => Ending::Done,
+        Some(event) => match (event.request, event.reply) {
+            (Request::Fall { kind }, _) => Ending::Uncaught { kind },
+            (_, Reply::Stopped(cause)) => Ending::Stopped { cause },
+            _ => Ending::Done,
+        },
+    }
+}
+
+fn note(list: &mut Vec<u32>, number: u32) -> Result<(), NoMemory>
+    ensures { OnOk result (list.new.items ≡ list.old.items ++ number ∷ []) }
+{
+    match list.push(number) {
+        Ok(()) => Ok(()),
+        Err(_) => Err(NoMemory),
+    }
+}
+
+fn put(threads: &mut Vec<Thread>, thread: Thread) -> Result<(), NoMemory>
+    ensures { OnOk result (threads.new.items ≡ threads.old.items ++ thread ∷ []) }
+{
+    match threads.push(thread) {
+        Ok(()) => Ok(()),
+        Err(_) => Err(NoMemory),
+    }
+}
+
+// A run so far.
+#[derive(Drop)]
+struct Run {
+    trees: Trees,
+    threads: Vec<Thread>,
+    started: Started,
+    world: World,
+    schedule: Vec<u32>,
+    order: Vec<u32>,
+}
+
+fn opening(alloc: Global, program: &Program) -> Result<Run, NoMemory>
+    ensures { IfOk result (λ run. (ks : List ℕ) → IsAt program.now ks 0 run) }
+{
+    let mut threads = Vec::new(alloc);
+    put(&mut threads, main_thread(alloc, program)?)?;
+    Ok(Run {
+        trees: Trees::new(alloc),
+        threads,
+        started: Started::new(alloc)?,
+        world: World::new(alloc)?,
+        schedule: Vec::new(alloc),
+        order: Vec::new(alloc),
+    })
+}
+
+impl Run {
+    // One turn of a thread, which a number chose; whether it was one.
+    fn turn(
+        &mut self,
+        alloc: Global,
+        program: &Program,
+        number: u32,
+        thread: u32,
+    ) -> Result<bool, NoMemory>
+        requires { IsWellTyped program.now }
+        ensures { IfOk result (λ made. (ks : List ℕ) (turns : ℕ) → IsAt program.now ks turns self.old →
+            drop turns ks ≡ number ∷ drop (turns + 1) ks → chosen (live_threads store (replayed self.old.world.history)) number ≡ Some thread →
+            GoesOnOrEnds program.now ks turns self.new made) }
+    {
+        let Some(state) = self.threads.as_mut_slice().get_mut(thread as usize) else {
+            return Ok(false);
+        };
+        let turn = state.turn(alloc, program, &mut self.trees, &mut self.world, thread)?;
+        match turn {
+            Turn::NoRule => return Ok(false),
+            Turn::Quiet => {}
+            Turn::Asked { event } => self.started.follow(&event)?,
+            Turn::Started { event, object } => {
+                self.started.follow(&event)?;
+                let begun = started_thread(alloc, program, object)?;
+                put(&mut self.threads, begun)?;
+            }
+        }
+        note(&mut self.schedule, number)?;
+        note(&mut self.order, thread)?;
+        Ok(true)
+    }
+
+    // The record, with this end.
+    fn meant(self, alloc: Global, ending: Ending) -> Result<Meant, NoMemory> {
+        let Run {
+            trees,
+            threads: _,
+            started: _,
+            world,
+            schedule,
+            order,
+        } = self;
+        Ok(Meant {
+            trees: trees.into_items(alloc)?,
+            schedule,
+            order,
+            history: world.into_history(),
+            ending,
+        })
+    }
+}
+
+/// Runs a program by its written meaning: its processes take turns over the store, one for each number of the chooser,
+/// until nobody lives or so many turns are made. A turn is one request with what is silent after it, or one
+/// instruction that makes none. A list has at least as many numbers as there are turns. This project's own.
+pub fn mean(
+    alloc: Global,
+    program: &Verified,
+    chooser: Chooser,
+    turns: u32,
+) -> Result<Meant, NoMemory>
+    requires verified { IsVerified program.now }
+    requires enough { HasNumbers chooser turns }
+    ensures { IfOk result (λ m. IsMeant program.now.program chooser turns m.trees m.schedule.items m.order.items m.history.items m.ending) }
+{
+    let program = program.program();
+    let mut run = opening(alloc, program)?;
+    let mut drawing = Drawing::of(&chooser);
+    for _ in 0..turns {
+        let number = drawing.draw(&chooser);
+        let Some(thread) = run.started.chosen(number) else {
+            let ending = ended_by(run.world.history());
+            return run.meant(alloc, ending);
+        };
+        if !run.turn(alloc, program, number, thread)? {
+            return run.meant(alloc, NO_RULE);
+        }
+    }
+    let ending = if run.started.live_count() == 0 {
+        ended_by(run.world.history())
+    } else {
+        Ending::Turns
+    };
+    run.meant(alloc, ending)
+}
