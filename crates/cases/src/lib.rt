@@ -6,8 +6,4 @@ mod checked;
 #[cfg(test)]
 mod limits;
 #[cfg(test)]
-mod meaning;
-#[cfg(test)]
-mod parsing;
-#[cfg(test)]
 mod verifying;
