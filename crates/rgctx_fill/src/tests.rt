@@ -1,5 +1,4 @@
-// The readers, the leaves and fills, on words written by hand.
-mod fills;
+// The readers and the leaves, on words written by hand.
 mod forgetful;
 mod leaves;
 mod readers;

@@ -6,7 +6,6 @@ ghost use Rattle.il_model.specs.Layouts.{words_of, instance_kinds_of, instance_w
 
 use crate::fields::{instance_kinds_of, static_kinds_of};
 use crate::sizing::{capped_words, put_word};
-use crate::steps::put;
 use il_model::{Layout, Program};
 use mn_outside::NoMemory;
 use sqlite_items::Items;
@@ -29,19 +28,6 @@ pub fn layout(alloc: Global, program: &Program, tree: &Tree) -> Result<Layout, N
         fixed_words: fixed.words,
         fixed_offsets: fixed.offsets,
     })
-}
-
-/// The words of a value of a type: for a struct those of its fields, and one for any other type.
-pub fn value_words(alloc: Global, program: &Program, kind: &Tree) -> Result<u32, NoMemory>
-    ensures { IfOk result (λ words. words ≡ words_of program.now kind.now) }
-{
-    let mut kinds: Items<TExpr> = Items::new(alloc);
-    put(&mut kinds, kind.copy(alloc)?)?;
-    let words = exact_words(alloc, program, kinds.as_slice())?;
-    match words.as_slice().first() {
-        Some(words) => Ok(*words),
-        None => unreachable!(),
-    }
 }
 
 // Fields one behind the other: their words together, and where each begins.

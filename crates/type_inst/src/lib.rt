@@ -33,7 +33,7 @@ pub use classes::{arguments_of, base_of, is_reference, with_args_of};
 pub use equality::{is_among, is_same};
 pub use il_model::{Layout, Limit, MethodTree};
 pub use implementing::interfaces;
-pub use laying::{layout, value_words};
+pub use laying::layout;
 pub use matching::{nearest_match, own_methods_of};
 pub use numbering::implementation;
 pub use placing::slots;
