@@ -13,5 +13,6 @@ mod templating;
 mod tests;
 
 pub use catalogue::Catalogue;
+pub use collecting::{Entries, add};
 pub use il_model::{Def, Entry};
 pub use templating::template;
