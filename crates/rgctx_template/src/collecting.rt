@@ -14,9 +14,9 @@ use std::alloc::Global;
 use std::marker::Model;
 use type_tree::TExpr;
 
-/// Entries in order, each once, found by a hash. Contracts see the list.
+/// Entries in order, each once. Contracts see the list.
 #[derive(Drop)]
-pub struct Entries {
+pub(crate) struct Entries {
     known: IndexSet<Known>,
 }
 
@@ -34,8 +34,7 @@ impl Model for Entries {
 }
 
 impl Entries {
-    /// A list without entries.
-    pub fn new(alloc: Global) -> Entries
+    pub(crate) fn new(alloc: Global) -> Entries
         ensures { result ≡ [] }
     {
         Entries {
@@ -44,7 +43,7 @@ impl Entries {
     }
 
     /// The entries as a list.
-    pub fn into_items(self, alloc: Global) -> Result<Items<Entry>, NoMemory>
+    pub(crate) fn into_items(self, alloc: Global) -> Result<Items<Entry>, NoMemory>
         ensures { IfOk result (λ es. es ≡ self) }
     {
         let mut entries = Items::new(alloc);
@@ -57,8 +56,8 @@ impl Entries {
     }
 }
 
-/// Puts an entry at the end of the list, unless it is listed. This project's own.
-pub fn add(entries: &mut Entries, entry: Entry) -> Result<(), NoMemory>
+/// Puts an entry at the end of the list, unless it is listed.
+pub(crate) fn add(entries: &mut Entries, entry: Entry) -> Result<(), NoMemory>
     ensures { OnOk result (entries.new ≡ added entries.old entry) }
 {
     match entries.known.insert(Known { entry }) {

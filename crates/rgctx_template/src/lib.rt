@@ -13,6 +13,5 @@ mod templating;
 mod tests;
 
 pub use catalogue::Catalogue;
-pub use collecting::{Entries, add};
 pub use il_model::{Def, Entry};
 pub use templating::template;
