@@ -138,8 +138,8 @@ pub(crate) fn all_bounds_meet(
     Ok(true)
 }
 
-// The same of a type's own arguments.
-fn meets_own_bounds(
+/// Whether a type has the right number of arguments, which meet their bounds.
+pub fn meets_own_bounds(
     alloc: Global,
     program: &Program,
     of_class: &[VarDef],
@@ -210,8 +210,8 @@ fn meets_bounds_of(
 }
 
 /// Whether an argument meets a bound: it is assignable to it or, being a value type or a variable, its boxed
-/// form is.
-pub(crate) fn meets_bound(
+/// form is. The argument is read among the variables of a class and of a method.
+pub fn meets_bound(
     alloc: Global,
     program: &Program,
     of_class: &[VarDef],

@@ -48,6 +48,7 @@ mod verifying;
 mod written;
 
 pub use admitting::{are_numbers, is_called_on, may_be_read, may_equal, may_exceed, may_test};
+pub use bounds::{meets_bound, meets_own_bounds};
 pub use fault::{BodyFault, VerifyCause, VerifyFault, Where};
 pub use fitting::fits;
 pub use joining::{is_assignable_type, joined};

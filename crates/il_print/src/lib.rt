@@ -12,8 +12,6 @@ mod operands;
 mod params;
 mod printing;
 mod scope;
-#[cfg(test)]
-mod tests;
 mod text;
 mod types;
 

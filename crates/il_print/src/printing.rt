@@ -17,8 +17,8 @@ use std::alloc::Global;
 const LIBRARY_CLASSES: usize = 13;
 
 /// The canonical text of a program: its classes behind those of the library, each line as `docs/GRAMMAR.md`
-/// says. Of a program that some text gives it can be read as tokens. Of a program that no text gives it has
-/// what the definition says, though no text that is accepted. This project's own.
+/// says. Where some text gives the program, this text gives it too. Of a program that no text gives it has
+/// what the definition says. This project's own.
 pub fn print(alloc: Global, program: &Program) -> Result<Vec<u8>, NoMemory>
     ensures text { IfOk result (λ text. text.items ≡ canonical_text program.now) }
     ensures accepted { IsOfText program.now → IfOk result (λ text. IsTextOf text.items program.now) }

@@ -8,7 +8,7 @@ use Rattle.il_model.specs.Entries.{same_entry, is_listed}
 use Rattle.rgctx_template.specs.Collected.{added}
 
 module _ {K : Type 0} (entry_of : K → Entry) where
-  any_key : (ks : List K) (e : Entry) → list_any (λ k. same_entry e (entry_of k)) ks ≡ is_listed (map entry_of ks) e
+  pub any_key : (ks : List K) (e : Entry) → list_any (λ k. same_entry e (entry_of k)) ks ≡ is_listed (map entry_of ks) e
   any_key [] e = refl
   any_key (k ∷ ks) e = ap (λ b. same_entry e (entry_of k) || b) (any_key ks e)
 

@@ -14,9 +14,9 @@ use std::alloc::Global;
 use std::marker::Model;
 use type_tree::TExpr;
 
-/// Entries in order, each once. Contracts see the list.
+/// Entries in order, each once, found by a hash. Contracts see the list.
 #[derive(Drop)]
-pub(crate) struct Entries {
+pub struct Entries {
     known: IndexSet<Known>,
 }
 
@@ -34,7 +34,8 @@ impl Model for Entries {
 }
 
 impl Entries {
-    pub(crate) fn new(alloc: Global) -> Entries
+    /// A list without entries.
+    pub fn new(alloc: Global) -> Entries
         ensures { result ≡ [] }
     {
         Entries {
@@ -43,7 +44,7 @@ impl Entries {
     }
 
     /// The entries as a list.
-    pub(crate) fn into_items(self, alloc: Global) -> Result<Items<Entry>, NoMemory>
+    pub fn into_items(self, alloc: Global) -> Result<Items<Entry>, NoMemory>
         ensures { IfOk result (λ es. es ≡ self) }
     {
         let mut entries = Items::new(alloc);
@@ -56,8 +57,8 @@ impl Entries {
     }
 }
 
-/// Puts an entry at the end of the list, unless it is listed.
-pub(crate) fn add(entries: &mut Entries, entry: Entry) -> Result<(), NoMemory>
+/// Puts an entry at the end of the list, unless it is listed. This project's own.
+pub fn add(entries: &mut Entries, entry: Entry) -> Result<(), NoMemory>
     ensures { OnOk result (entries.new ≡ added entries.old entry) }
 {
     match entries.known.insert(Known { entry }) {

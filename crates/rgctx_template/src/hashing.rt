@@ -21,9 +21,10 @@ fn feed_head<H: Hasher>(head: Head, state: &mut H)
     }
 }
 
+/// Feeds a type: a number for each head and variable, and the numbers in it, in order.
 #[cycle(feed)]
 #[tactic(auto, using(crate::proofs::FedLemmas::fed_node, crate::proofs::FedLemmas::fed_class_var, crate::proofs::FedLemmas::fed_method_var))]
-fn feed_tree<H: Hasher>(tree: &TExpr, state: &mut H)
+pub fn feed_tree<H: Hasher>(tree: &TExpr, state: &mut H)
     ensures { state.new ≡ fold H.write state.old (tree_writes tree.now) }
 {
     match tree.top() {

@@ -55,8 +55,8 @@ fn same_entry(first: &Entry, second: &Entry) -> bool
 
 /// An entry that is found again by its hash.
 #[derive(Drop)]
-pub(crate) struct Known {
-    pub(crate) entry: Entry,
+pub struct Known {
+    pub entry: Entry,
 }
 
 impl PartialEq for Known {

@@ -13,5 +13,8 @@ mod templating;
 mod tests;
 
 pub use catalogue::Catalogue;
+pub use collecting::{Entries, add};
+pub use hashing::feed_tree;
 pub use il_model::{Def, Entry};
+pub use known::Known;
 pub use templating::template;

@@ -52,7 +52,7 @@ impl Hash for Known {
 
 /// Types in order, each once. Contracts see the list.
 #[derive(Drop)]
-pub(crate) struct Kinds {
+pub struct Kinds {
     known: IndexSet<Known>,
 }
 
@@ -70,7 +70,8 @@ impl Model for Kinds {
 }
 
 impl Kinds {
-    pub(crate) fn new(alloc: Global) -> Kinds
+    /// No types.
+    pub fn new(alloc: Global) -> Kinds
         ensures { result ≡ [] }
     {
         Kinds {
@@ -79,7 +80,7 @@ impl Kinds {
     }
 
     /// The type at a place.
-    pub(crate) fn get(&self, place: usize) -> Option<&TExpr>
+    pub fn get(&self, place: usize) -> Option<&TExpr>
         ensures { option_copied result ≡ slice_get self.now place }
     {
         match self.known.get_index(place) {
@@ -89,7 +90,7 @@ impl Kinds {
     }
 
     /// The types as a list.
-    pub(crate) fn into_items(self, alloc: Global) -> Result<Items<TExpr>, NoMemory>
+    pub fn into_items(self, alloc: Global) -> Result<Items<TExpr>, NoMemory>
         ensures { IfOk result (λ kinds. kinds ≡ self) }
     {
         let mut kinds = Items::new(alloc);
@@ -101,7 +102,8 @@ impl Kinds {
 }
 
 /// The place of a type in the list. One that isn't in it is put at its end.
-pub(crate) fn place_of(alloc: Global, all: &mut Kinds, kind: &TExpr) -> Result<usize, NoMemory>
+pub fn place_of(alloc: Global, all: &mut Kinds, kind: &TExpr) -> Result<usize, NoMemory>
+    ensures list { OnOk result (all.new ≡ with_new all.old kind.now) }
     ensures kept { OnOk result (Extends all.old all.new) }
     ensures place { IfOk result (λ place. slice_get all.new place ≡ Some kind.now) }
 {

@@ -6,6 +6,7 @@ ghost use Rattle.il_model.specs.Layouts.{words_of, instance_kinds_of, instance_w
 
 use crate::fields::{instance_kinds_of, static_kinds_of};
 use crate::sizing::{capped_words, put_word};
+use crate::steps::{is_struct, put};
 use il_model::{Layout, Program};
 use mn_outside::NoMemory;
 use sqlite_items::Items;
@@ -45,6 +46,24 @@ fn stretch_of(alloc: Global, program: &Program, kinds: &[TExpr]) -> Result<Stret
     let words = exact_words(alloc, program, kinds)?;
     let stretch = placed(alloc, words.as_slice())?;
     Ok(stretch)
+}
+
+/// The words of a value of a type: one for a scalar or a reference, and for a struct those of its fields. No admitted
+/// type comes near 4,294,967,295 words; a type of so many is want of memory. This project's own.
+#[tactic(auto, using(crate::proofs::LayingLemmas::one_word))]
+pub fn words_of(alloc: Global, program: &Program, kind: &TExpr) -> Result<u32, NoMemory>
+    ensures { IfOk result (λ words. words ≡ words_of program.now kind.now) }
+{
+    if !is_struct(program, kind) {
+        return Ok(1);
+    }
+    let mut kinds: Items<TExpr> = Items::new(alloc);
+    put(&mut kinds, kind.copy(alloc)?)?;
+    let words = exact_words(alloc, program, kinds.as_slice())?;
+    match words.as_slice() {
+        [words] => Ok(*words),
+        _ => Err(NoMemory),
+    }
 }
 
 // The words of a value of each of these types.

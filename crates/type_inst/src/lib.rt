@@ -23,8 +23,6 @@ mod signatures;
 mod sizing;
 mod slotting;
 mod steps;
-#[cfg(test)]
-mod tests;
 
 pub use admission::admitted;
 pub use ascent::bases;
@@ -33,9 +31,11 @@ pub use classes::{arguments_of, base_of, is_reference, with_args_of};
 pub use equality::{is_among, is_same};
 pub use il_model::{Layout, Limit, MethodTree};
 pub use implementing::interfaces;
-pub use laying::layout;
+pub use known::{Kinds, place_of};
+pub use laying::{layout, words_of};
 pub use matching::{nearest_match, own_methods_of};
 pub use numbering::implementation;
 pub use placing::slots;
+pub use sizing::capped_words;
 pub use slotting::{SlotTable, virtual_slots};
 pub use steps::{has_count, is_struct, is_value, steps_of};

@@ -12,9 +12,9 @@ use sqlite_items::Items;
 use std::alloc::Global;
 use type_tree::{TExpr, positions};
 
-// The words of a value of each of these types, each cut to a cap. Each type in them is opened once; then
-// there are as many rounds as structs lie in one another, and each opens no type again.
-pub(crate) fn capped_words(
+/// The words of a value of each of these types, each cut to a cap. Each type in them is opened once; then
+/// there are as many rounds as structs lie in one another, and each opens no type again.
+pub fn capped_words(
     alloc: Global,
     program: &Program,
     kinds: &[TExpr],
