@@ -1,6 +1,6 @@
 // Canonical texts, which print as themselves.
 use il_parse::parse;
-use il_print::print;
+use il_print::{canonical_length, print};
 use std::alloc::Global;
 use std::process::Abort;
 use std::test::Fail;
@@ -17,10 +17,18 @@ const CLASSES: &[u8] = b".class P {
     .locals init ( int64, object & )
     L0 :
     ldc.i8 -9223372036854775808
+    ldc.i4 -1
     ldstr \"a\\n\\t\\\"\\\\\"
-    br L1
-    switch ( L1, L0 )
+    ldarg 3
     L1 :
+    br L1
+    switch ( L2, L0 )
+    callvirt instance int32 Q :: f < string > ( !!0, bool & )
+    constrained. !0 callvirt instance int32 Q :: f < string > ( !!0, bool & )
+    ldfld bool S :: x
+    call string Rt.Types :: NameOf < C<int64,!1> > ( )
+    call object System.Threading.Interlocked :: Exchange ( object &, object )
+    L2 :
   }
 }
 .class struct S {
@@ -29,6 +37,8 @@ const CLASSES: &[u8] = b".class P {
 .class List < T, U > {
 }
 .class Q {
+  .method int32 f < V > ( !!0, bool & ) {
+  }
   .method static void Main ( ) {
     .entrypoint
     L0 :
@@ -61,6 +71,8 @@ fn check(rt: &impl Abort, alloc: Global, clauses: u32) -> Result<(), Fail> {
     let parsed = parse(alloc, text.as_slice())?;
     let printed = print(alloc, &parsed.program)?;
     assert!(rt; printed.as_slice() == text.as_slice(), "{clauses} clauses");
+    let count = canonical_length(alloc, &parsed.program)?;
+    assert_eq!(rt; count, text.len() as u64);
     Ok(())
 }
 

@@ -92,10 +92,14 @@ fn plain(alloc: Global, class: u16) -> TExpr {
     TExpr::plain(alloc, Head::Class(class))
 }
 
-fn vector(alloc: Global, class: u16) -> Result<TExpr, Fail> {
+fn vector_of(alloc: Global, part: TExpr) -> Result<TExpr, Fail> {
     let mut parts = Items::new(alloc);
-    parts.push(plain(alloc, class))?;
+    parts.push(part)?;
     Ok(TExpr::node(Head::Vector, parts))
+}
+
+fn vector(alloc: Global, class: u16) -> Result<TExpr, Fail> {
+    vector_of(alloc, plain(alloc, class))
 }
 
 // The methods in the slots of a class.
@@ -151,6 +155,8 @@ fn newslot_takes_a_slot_of_its_own(rt: HostRuntime) -> Result<(), Fail> {
     assert_eq!(rt; a.as_slice(), [12u16, 13].as_slice());
     assert_eq!(rt; b.as_slice(), [14u16, 13, 15].as_slice());
     assert_eq!(rt; c.as_slice(), [17u16, 13, 16].as_slice());
+    let int32 = slots(alloc, accepted.program(), &TExpr::plain(alloc, Head::Int32))?;
+    assert_eq!(rt; int32.len(), 0);
     Ok(())
 }
 
@@ -177,6 +183,8 @@ fn interfaces_come_once_and_those_of_the_base_first(rt: HostRuntime) -> Result<(
     let found = interfaces(alloc, accepted.program(), &plain(alloc, E))?;
     let found = classes(alloc, found.as_slice())?;
     assert_eq!(rt; found.as_slice(), [I, J].as_slice());
+    let found = interfaces(alloc, accepted.program(), &TExpr::plain(alloc, Head::Int32))?;
+    assert_eq!(rt; found.len(), 0);
     let found = bases(alloc, accepted.program(), &plain(alloc, E))?;
     let found = classes(alloc, found.as_slice())?;
     assert_eq!(rt; found.as_slice(), [E, D, OBJECT].as_slice());
@@ -197,5 +205,21 @@ fn classes_are_assigned_upwards(rt: HostRuntime) -> Result<(), Fail> {
     assert!(rt; assignable(alloc, program, &d, &plain(alloc, OBJECT))?);
     assert!(rt; assignable(alloc, program, &vector(alloc, E)?, &vector(alloc, I)?)?);
     assert!(rt; !assignable(alloc, program, &vector(alloc, I)?, &vector(alloc, E)?)?);
+    Ok(())
+}
+
+#[test]
+fn vectors_of_numbers_are_objects(rt: HostRuntime) -> Result<(), Fail> {
+    let alloc = rt.alloc();
+    let accepted = accepted(alloc)?;
+    let program = accepted.program();
+    let object = plain(alloc, OBJECT);
+    let int32 = TExpr::plain(alloc, Head::Int32);
+    let numbers = vector_of(alloc, int32.copy(alloc)?)?;
+    let rows = vector_of(alloc, numbers.copy(alloc)?)?;
+    assert!(rt; assignable(alloc, program, &numbers, &object)?);
+    assert!(rt; assignable(alloc, program, &rows, &rows)?);
+    assert!(rt; !assignable(alloc, program, &int32, &object)?);
+    assert!(rt; !assignable(alloc, program, &rows, &numbers)?);
     Ok(())
 }
