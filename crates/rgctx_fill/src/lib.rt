@@ -5,11 +5,17 @@ mod applying;
 mod beginning;
 mod fill;
 pub mod laws;
+mod limits;
+mod naming;
+mod planning;
 mod reading;
 mod rule;
 mod spelled;
 mod stage;
+mod starting;
 mod templating;
+mod turning;
+mod values;
 #[cfg(test)]
 mod tests;
 
@@ -18,3 +24,4 @@ pub use fill::Fill;
 pub use rule::Fits;
 pub use spelled::{NodeTemplate, NodeTree};
 pub use stage::{FillNext, FillStep, NodeStep, Region, Stage};
+pub use starting::FillStart;
