@@ -13,7 +13,7 @@ use mn_outside::NoMemory;
 use rgctx_template::Catalogue;
 use share_canon::pick;
 use std::alloc::Global;
-use type_inst::{arguments_of, is_value, layout, value_words};
+use type_inst::{arguments_of, is_value, layout, words_of};
 use type_tree::{Tree, copy_all};
 
 // The entry word of the body that serves a method best, 0 where none does.
@@ -38,7 +38,7 @@ pub(crate) fn size_value(alloc: Global, program: &Program, kind: &Tree) -> Resul
     ensures value { IfOk result (λ value. value ≡ size_value program.now kind.now) }
     ensures small { IfOk result (λ value. value < 2 ^ 63) }
 {
-    let words = value_words(alloc, program, kind)?;
+    let words = words_of(alloc, program, kind)?;
     let own = if is_value(program, kind) { 1 } else { 0 };
     Ok(2 * u64::from(words) + own + 1)
 }
