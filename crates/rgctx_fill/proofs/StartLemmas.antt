@@ -148,7 +148,7 @@ module _ (cat : CatData) (spells : NodeTree) where
     trees = [];
     plan = no_plan;
     value = λ at numbers count are.
-        let z : base ≡ base + node_for numbers (length numbers) = ap (λ n. base + node_for numbers n) (sym count) in
+        let z : base + 0 ≡ base + node_for numbers (length numbers) = ap (λ n. base + node_for numbers n) (sym count) in
         subst (λ v. IsValue cat at spells e v) (add_none base ∙ z) (value at);
     positive = λ c. positive;
     small = small;
