@@ -8,14 +8,16 @@ use Rattle.rgctx_fill.specs.declared.stage.Stage.{Stage}
 use Rattle.rgctx_fill.specs.declared.stage.Stage.TheVariants as stage
 use Rattle.rgctx_fill.specs.declared.stage.FillNext.{FillNext}
 use Rattle.rgctx_fill.specs.declared.stage.FillNext.TheVariants as next
+use Rattle.rgctx_fill.specs.declared.stage.FillStep.{FillStep}
+use Rattle.rgctx_fill.specs.declared.stage.FillStep.TheVariants as step
 use Rattle.rgctx_fill.specs.Fitting.{AreFitting}
 use Rattle.rgctx_fill.specs.NamedValues.{IsNamed}
 use Rattle.rgctx_fill.specs.GrowthLaws.{named-grows}
 use Rattle.rgctx_fill.specs.LeafLaws.{leaf-used}
 use Rattle.rgctx_fill.specs.ClaimLaws.{claim-keeps, claim-grows}
 use Rattle.rgctx_fill.specs.Turns.{FillData, next_of, taken}
-use Rattle.rgctx_fill.specs.Ready.{IsFilled, IsReady, Knows}
-use Rattle.rgctx_fill.specs.Interleaved.{Shared, with_word, words_after, fill_after, turned_if, turned, interleaved, AreUnderWay}
+use Rattle.rgctx_fill.specs.Ready.{IsFilled, IsReady, Knows, IsClaimed, IsAnswered, IsMade, IsTurn}
+use Rattle.rgctx_fill.specs.Interleaved.{Shared, with_word, words_after, fill_after, turned_if, turned, interleaved, IsTurned, AreUnderWay}
 use Rattle.rgctx_fill.proofs.NodeLaws.{named-only}
 use Rattle.rgctx_fill.proofs.TurnLemmas.{MayPut, may-put, Loaded, Claimed, ready-loaded, ready-claimed, ready-grows, differ}
 
@@ -133,3 +135,44 @@ module _ (cat : CatData) where
       let b : IsFilled cat end.at g.node g.entry w = done_filled end.at g w (on.ready j g g_is) g_done in
       let c : IsFilled cat end.at f.node f.entry w = subst (λ n. IsFilled cat end.at n f.entry w) (sym same_node) (subst (λ e. IsFilled cat end.at g.node e w) (sym same_entry) b) in
       one-value cat end.at end.at end.at on.fits (grows_all end.at) (grows_all end.at) f.node f.entry v w a c
+
+-- ---- turns that are made
+
+with_here : (at : ℕ → ℕ) (i word j : ℕ) → j ≡ i → with_word at i word j ≡ word
+with_here at i word j e = ap (λ (b : Bool). if b then word else at j) (eq-eqb j i e)
+
+with_other_if : (at : ℕ → ℕ) (i word j : ℕ) (b : Bool) → (j == i) ≡ b → j ≢ i → (if b then word else at j) ≡ at j
+with_other_if at i word j true e ne = absurd (ne (eqb-true j i e))
+with_other_if at i word j false e ne = refl
+
+with_other : (at : ℕ → ℕ) (i word j : ℕ) → j ≢ i → with_word at i word j ≡ at j
+with_other at i word j ne = with_other_if at i word j (j == i) refl ne
+
+module _ (before after : ℕ → ℕ) (f new : FillData) where
+  claimed_if : (i word answer : ℕ) → IsClaimed true before after i word answer → (b : Bool) → (before i == 0) ≡ b → (j : ℕ) → after j ≡ (if b then with_word before i word else before) j
+  claimed_if i word answer h true e j = ⊎_elim
+      (λ (same : j ≡ i). ap after same ∙ h.put ((h.only refl).0 ∙ eqb-true (before i) 0 e) ∙ sym (with_here before i word j same))
+      (λ (ne : j ≢ i). (h.only refl).1 j ne ∙ sym (with_other before i word j ne))
+      (cases_eq j i)
+  claimed_if i word answer h false e j = ⊎_elim
+      (λ (same : j ≡ i). ap after same ∙ h.held (λ z. differ (before i) 0 e (sym (h.only refl).0 ∙ z)) ∙ (h.only refl).0 ∙ ap before (sym same))
+      (λ (ne : j ≢ i). (h.only refl).1 j ne)
+      (cases_eq j i)
+
+  answered_turns : (n : FillNext) (answer : ℕ) → IsAnswered true before after n answer → new ≡ taken f answer → (new ≡ fill_after before f n) × ((j : ℕ) → after j ≡ words_after before n j)
+  answered_turns (next.Load i) answer h takes = (takes ∙ ap (taken f) (h.only refl).0, (h.only refl).1)
+  answered_turns (next.Claim i word) answer h takes = (takes ∙ ap (taken f) (h.only refl).0, claimed_if i word answer h (before i == 0) refl)
+  answered_turns (next.Full r key) answer h takes = absurd h
+  answered_turns next.Nothing answer h takes = absurd h
+
+  made_turns : (listed relisted : Option (List (ℕ × ℕ))) (gives : FillStep) → IsMade true before after listed relisted f new gives → IsTurned before after f new
+  made_turns listed relisted gives m = let p = answered_turns (next_of f) m.answer m.answered m.takes in record { fill = p.0; words = p.1 }
+
+  -- On words that nobody else writes, a turn is the one that the interleaving makes
+  pub turn-turned : (listed relisted : Option (List (ℕ × ℕ))) (gives : FillStep) → IsTurn true before after listed relisted f new gives → IsTurned before after f new
+  turn-turned listed relisted step.More made = made_turns listed relisted step.More made
+  turn-turned listed relisted (step.Value v) made = made_turns listed relisted (step.Value v) made
+  turn-turned listed relisted (step.Full r key) end = record {
+    fill = end.same ∙ ap (fill_after before f) (sym end.full);
+    words = λ j. end.words j ∙ ap (λ n. words_after before n j) (sym end.full);
+  }

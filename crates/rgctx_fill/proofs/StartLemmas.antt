@@ -1,6 +1,6 @@
 -- What is planned for each kind of entry, and that a fill with such a plan is ready.
 use Rattle.std.proofs.Common.{◌≡◌, ◌≢◌, ℕ, zero, suc, ◌+◌, ◌*◌, ◌^◌, ◌<◌, ◌≤◌, Bool, true, false, List, [], ◌∷◌, ◌++◌, length, map, Option, Some, None, if◌then◌else◌, refl, sym, ap, ◌∙◌, subst, arith}
-use Rattle.std.specs.Prelude.{slice_get, slice_index, nat_lt, is_none, flat_map, option_to_list}
+use Rattle.std.specs.Prelude.{slice_get, slice_index, nat_lt, is_none, flat_map, option_map, option_to_list}
 use Rattle.std.specs.List.{All, AllByRecursion}
 use Rattle.std.proofs.lemmas.Bool.Decides.{nat_tests}
 use Rattle.std.proofs.lemmas.List.Elements.{All-from_recursion, recursion_from_All}
@@ -26,20 +26,20 @@ use Rattle.rgctx_fill.specs.declared.spelled.NodeTree.TheVariants as tree
 use Rattle.rgctx_fill.specs.declared.stage.NodeStep.{NodeStep}
 use Rattle.rgctx_fill.specs.declared.stage.Stage.{Stage}
 use Rattle.rgctx_fill.specs.declared.stage.Stage.TheVariants as stage
-use Rattle.rgctx_fill.specs.Spelled.{spelled, type_in, naming_of}
+use Rattle.rgctx_fill.specs.Spelled.{spelled_below, spelled, type_in, naming_of}
 use Rattle.rgctx_fill.specs.Nodes.{IsAdmittedType, IsAdmittedMethod, MayStand}
 use Rattle.rgctx_fill.specs.Templates.{template_at, tree_template}
-use Rattle.rgctx_fill.specs.NamedValues.{IsEntryWord, IsMethodValue, IsSlotValue, IsValue, IsNamed, entry_at, method_in_slot, size_value, extent_value, offset_value}
+use Rattle.rgctx_fill.specs.NamedValues.{IsEntryWord, IsMethodValue, IsSlotValue, IsValue, IsNamed, entry_at, method_in_slot, size_value, extent_value, offset_of, offset_value}
 use Rattle.rgctx_fill.specs.Fitting.{AreFitting}
 use Rattle.rgctx_fill.specs.Claims.{ArePassed, IsSure, Shows}
 use Rattle.rgctx_fill.specs.Reading.{IsNodeTree}
-use Rattle.rgctx_fill.specs.SpelledLaws.{is_zero, spelled-grows}
+use Rattle.rgctx_fill.specs.SpelledLaws.{is_zero, no_zero_word, spelled-grows}
 use Rattle.rgctx_fill.specs.GrowthLaws.{listed-used, stands-used}
 use Rattle.rgctx_fill.specs.Turns.{FillData, IsAt, node_for, node_key, first_stage, begun}
 use Rattle.rgctx_fill.specs.Plans.{Spells, AreSpelled, IsPlan}
 use Rattle.rgctx_fill.specs.Ready.{Knows, IsReady}
 use Rattle.rgctx_fill.specs.Steps.{type_steps, method_steps}
-use Rattle.rgctx_fill.specs.Starting.{IsWholeType, IsWholeMethod, IsNameable, IsFillable, limit_named, steps_of_slot, limit_of_slot, steps_named, IsPlanOf, IsEntryOf, IsBegun, IsRefused}
+use Rattle.rgctx_fill.specs.Starting.{IsWholeType, IsWholeMethod, IsWhole, IsNameable, IsFillable, limit_named, steps_of_slot, limit_of_slot, steps_named, IsPlanOf, IsEntryOf, IsBegun, IsRefused}
 use Rattle.rgctx_fill.proofs.PartLemmas.{admitted-limit}
 use Rattle.rgctx_fill.proofs.StepLemmas.{Ends, type-plan, method-plan, no-plan}
 
@@ -161,6 +161,14 @@ module _ (cat : CatData) (spells : NodeTree) where
       add_none : (n : ℕ) → n ≡ n + 0
       add_none n = omega arith
 
+module _ (cat : CatData) (spells : NodeTree) where
+  above_none : (o : Option ℕ) (v : ℕ) → option_map (λ n. n + 1) o ≡ Some v → 0 < v
+  above_none None v h = cc
+  above_none (Some n) v h = let e : n + 1 ≡ v = cc in omega arith
+
+  pub offset-plan : (t : TExpr) (place value : ℕ) → offset_value cat.program t place ≡ Some value → value < 2 ^ 63 → IsPlanOf cat spells (entry.Offset t place) [] value
+  offset-plan t place value is small = number-plan cat spells (entry.Offset t place) value refl (above_none (offset_of cat.program t place) value is) small (λ at. is)
+
 -- ---- the start
 
 -- what is read of a node that is shown it spells
@@ -250,3 +258,42 @@ refused-is cat held node number t e passed is item passes = record {
   is = entry-of cat held node number t e is item;
   passes = ap (λ s. limit_named cat.program s (entry_at t e)) is ∙ passes;
 }
+
+-- ---- what a start comes to
+
+-- what is read of a node that is shown, and of whose template the entry is sure to be
+pub record Opened (cat : CatData) (held : ℕ → ℕ) (node number : ℕ) (t : NodeTree) : Type 0 where
+  pub is : spelled held node ≡ t
+  pub known : is_zero t ≡ false
+  pub used : held node ≢ 0
+  pub stands : MayStand cat.program node t
+  pub there : number < length (tree_template cat t)
+
+pub opened : (cat : CatData) (before after at : ℕ → ℕ) (node number : ℕ) (t : NodeTree) → AreFitting cat at → Grows after at → Grows before after → 0 < node → node < node_count → Shows cat before node
+    → IsSure cat before (λ w. number < length (template_at cat w node)) → IsNodeTree cat before after node t → Opened cat after node number t
+opened cat before after at node number t fits within grows low high shown sure read =
+    let r : (spelled after node ≡ t) × (is_zero t ≡ false) = tree-read cat before after node t shown read in
+    record {
+      is = r.0;
+      known = r.1;
+      used = no_zero_word (spelled_below after node) node (after node) (ap is_zero r.0 ∙ r.1);
+      stands = tree-stands cat before after at node number t fits within grows low high r.0 r.1 shown;
+      there = entry-there cat before after at node number t fits within grows low high r.0 r.1 sure;
+    }
+
+module _ (cat : CatData) (held : ℕ → ℕ) (node number : ℕ) (t : NodeTree) (o : Opened cat held node number t) (fillable : IsFillable cat) (e own : Entry) (item : slice_get (tree_template cat t) number ≡ Some e) (closed : own ≡ entry_at t e) where
+  pub own-whole : IsWhole cat.program t own
+  own-whole = subst (IsWhole cat.program t) (sym closed) (fillable.whole node t number e o.stands item)
+
+  pub few-depths : depth_of number < 256
+  few-depths = let few : length (tree_template cat t) ≤ 1792 = fillable.few node t o.stands in let low : number < length (tree_template cat t) = o.there in omega arith
+
+  pub begins : (steps : List NodeStep) (base : ℕ) → 0 < node → node < node_count → (limit_named cat.program t own ≡ None) × IsPlanOf cat t own steps base → IsBegun cat held node number (begun node number steps base)
+  begins steps base low high planned =
+      let none : limit_named cat.program t (entry_at t e) ≡ None = ap (limit_named cat.program t) (sym closed) ∙ planned.0 in
+      let plan : IsPlanOf cat t (entry_at t e) steps base = subst (λ x. IsPlanOf cat t x steps base) closed planned.1 in
+      begun-is cat held node number t e steps base o.is item none plan
+      (begun-ready cat held node number t e steps base low high o.used o.is o.known item (fillable.few node t o.stands) plan)
+
+  pub refuses : (passed : Limit) → limit_named cat.program t own ≡ Some passed → IsRefused cat held node number passed
+  refuses passed passes = refused-is cat held node number t e passed o.is item (ap (limit_named cat.program t) (sym closed) ∙ passes)

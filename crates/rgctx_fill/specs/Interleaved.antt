@@ -47,3 +47,8 @@ interleaved s (k ∷ ks) = interleaved (turned s k) ks
 pub record AreUnderWay (cat : CatData) (s : Shared) : Type 0 where
   pub fits : AreFitting cat s.at
   pub ready : (k : ℕ) (f : FillData) → slice_get s.fills k ≡ Some f → IsReady cat s.at f
+
+-- the turn that a fill makes on its own: this is the fill after it, and these are the words
+pub record IsTurned (before after : ℕ → ℕ) (f new : FillData) : Type 0 where
+  pub fill : new ≡ fill_after before f (next_of f)
+  pub words : (j : ℕ) → after j ≡ words_after before (next_of f) j

@@ -85,14 +85,22 @@ fn worse(first: Option<Limit>, second: Option<Limit>) -> Option<Limit>
 fn kinds_named(alloc: Global, program: &Program, method: &MethodTree) -> Result<Items<Tree>, NoMemory>
     ensures { IfOk result (λ kinds. kinds ≡ map (seen_at method.now) (flat_map types_of_method (option_to_list (method_at program.now method.now.method)))) }
 {
-    let mut kinds = Items::new(alloc);
-    if let Some(definition) = program.methods.as_slice().get(method.method as usize) {
-        add_kinds(alloc, &mut kinds, method, definition)?;
+    match program.methods.as_slice().get(method.method as usize) {
+        Some(definition) => kinds_of(alloc, method, definition),
+        None => Ok(Items::new(alloc)),
     }
+}
+
+// The types of a definition's signature and locals, as an instantiated method sees them.
+fn kinds_of(alloc: Global, method: &MethodTree, definition: &MethodDef) -> Result<Items<Tree>, NoMemory>
+    ensures { IfOk result (λ kinds. kinds ≡ map (seen_at method.now) (types_of_method definition.now)) }
+{
+    let mut kinds = Items::new(alloc);
+    add_kinds(alloc, &mut kinds, method, definition)?;
     Ok(kinds)
 }
 
-// Adds the types of a definition's signature and locals, as an instantiated method sees them.
+// Adds these types.
 fn add_kinds(
     alloc: Global,
     kinds: &mut Items<Tree>,

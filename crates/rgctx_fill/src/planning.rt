@@ -39,7 +39,8 @@ fn add_type(alloc: Global, steps: &mut Vec<NodeStep>, kind: &TExpr) -> Result<()
         TNode::Node(head, parts) => {
             let mut places = Vec::new(alloc);
             add_types(alloc, steps, &mut places, parts.as_slice())?;
-            put_step(steps, step_with(head_number(*head), places.as_slice()))
+            put_step(steps, step_with(head_number(*head), places.as_slice()))?;
+            Ok(())
         }
         TNode::ClassVar(_) | TNode::MethodVar(_) => Ok(()),
     }
