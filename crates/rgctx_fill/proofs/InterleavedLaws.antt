@@ -69,14 +69,18 @@ module _ (cat : CatData) (at : ℕ → ℕ) (fits : AreFitting cat at) (f : Fill
       → AreFitting cat (if b then with_word at i word else at) × Grows at (if b then with_word at i word else at) × IsReady cat (if b then with_word at i word else at) (taken f (at i))
   claims_if i word is true e =
       let was : at i ≡ 0 = eqb-true (at i) 0 e in
-      let may : MayPut cat at i word = may-put cat at f ready i word is in
-      (put_fits i word may was, put_grows i word may was,
-      ready-claimed cat at (with_word at i word) (with_word at i word) f ready (put_grows i word may was) (put_fits i word may was) (grows_all (with_word at i word)) i word (at i) is
-      (record { has = λ used. absurd (used was); put = λ z. here i word may was }))
+      let may : MayPut cat at i word = may-put cat at f ready i word is in (
+        put_fits i word may was,
+        put_grows i word may was,
+        ready-claimed cat at (with_word at i word) (with_word at i word) f ready (put_grows i word may was) (put_fits i word may was) (grows_all (with_word at i word)) i word (at i) is
+            (record { has = λ used. absurd (used was); put = λ z. here i word may was }),
+      )
   claims_if i word is false e =
-      let used : at i ≢ 0 = differ (at i) 0 e in
-      (fits, grows_all at,
-      ready-claimed cat at at at f ready (grows_all at) fits (grows_all at) i word (at i) is (record { has = λ u. refl; put = λ z. absurd (used z) }))
+      let used : at i ≢ 0 = differ (at i) 0 e in (
+        fits,
+        grows_all at,
+        ready-claimed cat at at at f ready (grows_all at) fits (grows_all at) i word (at i) is (record { has = λ u. refl; put = λ z. absurd (used z) }),
+      )
 
   goes : (n : FillNext) → next_of f ≡ n → Goes n
   goes (next.Load i) is = loads i is

@@ -154,7 +154,7 @@ pub seen-more : (m : MethodTree) (old : List TExpr) (places : List PType) (p : P
     → now ++ map (seen_at m) (type_of_place p) ≡ old ++ map (seen_at m) (types_of_places (places ++ p ∷ []))
 seen-more m old places p now is =
     let a : map (seen_at m) (types_of_places (places ++ p ∷ [])) ≡ map (seen_at m) (types_of_places places) ++ map (seen_at m) (type_of_place p) =
-        ap (map (seen_at m)) (flat-more places p) ∙ map-append (seen_at m) (types_of_places places) (type_of_place p) in
+    ap (map (seen_at m)) (flat-more places p) ∙ map-append (seen_at m) (types_of_places places) (type_of_place p) in
     ap (λ l. l ++ map (seen_at m) (type_of_place p)) is ∙ append_assoc old (map (seen_at m) (types_of_places places)) (map (seen_at m) (type_of_place p)) ∙ ap (λ l. old ++ l) (sym a)
 
 -- the types that a method of the program names, and those that no method does

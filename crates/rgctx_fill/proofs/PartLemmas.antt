@@ -160,7 +160,7 @@ module _ (program : Program) where
       → AllByRecursion (λ p. list_any test (limited_trees_of program p) ≡ false) parts
   none_of_parts test head parts none =
       let all : AllByRecursion (λ u. list_any test (closure_of program u) ≡ false) (node head parts ∷ flat_map trees_in parts) =
-          subst (AllByRecursion (λ u. list_any test (closure_of program u) ≡ false)) (trees_in-node head parts) (none_flat test (closure_of program) (trees_in (node head parts)) none) in
+      subst (AllByRecursion (λ u. list_any test (closure_of program u) ≡ false)) (trees_in-node head parts) (none_flat test (closure_of program) (trees_in (node head parts)) none) in
       each_part (λ p. AllByRecursion (λ u. list_any test (closure_of program u) ≡ false) (trees_in p)) (λ p. list_any test (limited_trees_of program p) ≡ false) parts
       (λ p h. flat_none test (closure_of program) (trees_in p) h)
       (split_flat (λ u. list_any test (closure_of program u) ≡ false) trees_in parts all.1)
@@ -174,7 +174,7 @@ module _ (program : Program) where
   parts_limited : (head : Head) (parts : List TExpr) → limit_of program (node head parts) ≡ None → AllByRecursion (λ p. limit_of program p ≡ None) parts
   parts_limited head parts none =
       let p : (list_any is_large (limited_trees_of program (node head parts)) ≡ false) × (list_any (is_wide program) (limited_trees_of program (node head parts)) ≡ false) =
-          lim_none (list_any is_large (limited_trees_of program (node head parts))) (list_any (is_wide program) (limited_trees_of program (node head parts))) none in
+      lim_none (list_any is_large (limited_trees_of program (node head parts))) (list_any (is_wide program) (limited_trees_of program (node head parts))) none in
       join_limits parts (none_of_parts is_large head parts p.0) (none_of_parts (is_wide program) head parts p.1)
 
   -- ---- numbers of arguments

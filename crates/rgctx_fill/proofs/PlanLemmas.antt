@@ -233,7 +233,7 @@ module _ (cat : CatData) (at held : ℕ → ℕ) (fits : AreFitting cat at) (wit
   read_known : is_zero (spelled held place) ≡ false
   read_known =
       let e : spelled held place ≡ spelled_by (spelled_below held place) (record { definition = s.definition; first = node_for found s.first; second = node_for found s.second; third = node_for found s.third }) =
-          from-used (spelled_below held place) place (held place) used ∙ ap (λ w. spelled_by (spelled_below held place) (node_read w)) here ∙ ap (spelled_by (spelled_below held place)) word_read in
+      from-used (spelled_below held place) place (held place) used ∙ ap (λ w. spelled_by (spelled_below held place) (node_read w)) here ∙ ap (spelled_by (spelled_below held place)) word_read in
       ap is_zero e
       ∙ known-by (spelled_below held place) (record { definition = s.definition; first = node_for found s.first; second = node_for found s.second; third = node_for found s.third })
       (λ x which. ⊎_elim

@@ -75,7 +75,7 @@ method-admitted : (program : Program) (m : MethodTree) → IsWholeMethod program
 method-admitted program m whole none =
     let own : limit_at program m.class m.args (Some whole.method) ≡ None = ap (limit_at program m.class m.args) (sym whole.is) ∙ none in
     let split : (nat_lt most_positions (method_positions m.class m.args) ≡ false) × (worst (map (limit_of program) (types_named_by m.class m.args (Some whole.method))) ≡ None) =
-        limited_if (nat_lt most_positions (method_positions m.class m.args)) (worst (map (limit_of program) (types_named_by m.class m.args (Some whole.method)))) own in
+    limited_if (nat_lt most_positions (method_positions m.class m.args)) (worst (map (limit_of program) (types_named_by m.class m.args (Some whole.method)))) own in
     let front : AllByRecursion (λ t. limit_of program t ≡ None) (m.class ∷ m.args) = front_none program (m.class ∷ m.args) _ split.1 in
     record {
       method = whole.method;
@@ -156,8 +156,10 @@ module _ (cat : CatData) (spells : NodeTree) where
     where
       no_step : {P : Type 0} (k : ℕ) (s : NodeStep) → slice_get [] k ≡ Some s → P
       no_step k s is = cc
+
       no_plan : IsPlan cat.program [] []
       no_plan = record { count = refl; each = λ k s t s_is t_is. no_step k s s_is }
+
       add_none : (n : ℕ) → n ≡ n + 0
       add_none n = omega arith
 

@@ -241,14 +241,16 @@ module _ (program : Program) (nameable : IsNameable program) where
       let count : length (steps ++ new) ≡ length steps + length new = length-append steps new in
       let rest : AddsAll (steps ++ new) (types_steps ts (length (steps ++ new))) (types_places ts (length (steps ++ new))) (trees ++ first.more) ts = add_each ts can.1 admitted.1 (steps ++ new) (trees ++ first.more) first.plan in
       let at : AddsAll (steps ++ new) (types_steps ts (length steps + length new)) (types_places ts (length steps + length new)) (trees ++ first.more) ts =
-          subst (λ n. AddsAll (steps ++ new) (types_steps ts n) (types_places ts n) (trees ++ first.more) ts) count rest in
+      subst (λ n. AddsAll (steps ++ new) (types_steps ts n) (types_places ts n) (trees ++ first.more) ts) count rest in
       let e : (trees ++ first.more) ++ at.more ≡ trees ++ (first.more ++ at.more) = append_assoc trees first.more at.more in
       let s : (steps ++ new) ++ types_steps ts (length steps + length new) ≡ steps ++ (new ++ types_steps ts (length steps + length new)) = append_assoc steps new (types_steps ts (length steps + length new)) in
       record {
         more = first.more ++ at.more;
         plan = subst (λ x. IsPlan program x (trees ++ (first.more ++ at.more))) s (subst (IsPlan program ((steps ++ new) ++ types_steps ts (length steps + length new))) e at.plan);
-        all = (subst (λ x. IsPlaceOf x (length steps + length new) t) e (place_more (trees ++ first.more) at.more (length steps + length new) t first.last),
-            subst (λ x. ArePlacesOf x (types_places ts (length steps + length new)) ts) e at.all);
+        all = (
+          subst (λ x. IsPlaceOf x (length steps + length new) t) e (place_more (trees ++ first.more) at.more (length steps + length new) t first.last),
+          subst (λ x. ArePlacesOf x (types_places ts (length steps + length new)) ts) e at.all,
+        );
       }
 
   -- behind the steps of the arguments stands that of the whole

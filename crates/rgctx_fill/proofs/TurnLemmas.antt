@@ -183,8 +183,8 @@ module _ (cat : CatData) (held : ℕ → ℕ) (f : FillData) (ready : IsReady ca
   may_node place later high less passed below =
       let n : NextNode cat held f ready.trees = next_node less in
       let e : spelled_from (spelled_below held place) place (node_key f) ≡ n.t =
-          ap (spelled_from (spelled_below held place) place) n.key
-          ∙ key-spells cat.program ready.trees f.found n.s n.t n.step (spelled_below held place) place (spelled-below held ready.trees f.found place below ready.found) in
+      ap (spelled_from (spelled_below held place) place) n.key
+      ∙ key-spells cat.program ready.trees f.found n.s n.t n.step (spelled_below held place) place (spelled-below held ready.trees f.found place below ready.found) in
       record {
         later = later;
         passed = passed;
@@ -487,6 +487,7 @@ module _ (cat : CatData) (held after at : ℕ → ℕ) (f : FillData) (ready : I
           let inside : k < length ready.trees = let p : length ready.trees ≡ length f.steps = ready.plan.count in let q : length f.found < suc (length f.steps) = ready.few in omega arith in
           let g : Got ready.trees k = got ready.trees k inside in
           (ready.found k g.item below g.is).high
+
       shown : (x y : ℕ) → held x ≢ 0 → x < node_count → 0 < y → y < x → Shows cat held y
       shown x y used high low less = shows-named cat held x y (omega arith) used (subst (λ p. NamesFrom p (held x) y) (sym (node-place x high)) (low, less))
 
@@ -527,9 +528,11 @@ module _ (cat : CatData) (held after at : ℕ → ℕ) (f : FillData) (ready : I
   row_loaded depth row place answer low inside high all before passed loaded false false e d =
       let used : answer ≢ 0 = differ answer 0 d in
       let here : directory after place ≡ answer = loaded.has used in
-      ready_at (stage.Row depth row (place + 1)) (low, inside, omega arith)
-      (all, before_on depth row before,
-      passed_more (directory held) (directory after) (rows_on held after grows) 0 place (row_key f depth) passed (λ z. used (sym here ∙ z)) (λ z. differ answer (row_key f depth) e (sym here ∙ z)))
+      ready_at (stage.Row depth row (place + 1)) (low, inside, omega arith) (
+        all,
+        before_on depth row before,
+        passed_more (directory held) (directory after) (rows_on held after grows) 0 place (row_key f depth) passed (λ z. used (sym here ∙ z)) (λ z. differ answer (row_key f depth) e (sym here ∙ z)),
+      )
 
   loaded_at : (s : Stage) → Knows cat held f s → IsAt f s → (i answer : ℕ) → next_at f s ≡ next.Load i → Loaded cat held after i answer → IsReady cat after (taken_at f s answer)
   loaded_at (stage.Node place) knows stands i answer is loaded =
@@ -574,9 +577,11 @@ module _ (cat : CatData) (held after at : ℕ → ℕ) (f : FillData) (ready : I
   row_claimed depth row place answer low inside high all before passed claimed false false e d =
       let used : answer ≢ 0 = differ answer 0 e in
       let here : directory after place ≡ answer = claimed.has used in
-      ready_at (stage.Row depth row (place + 1)) (low, inside, omega arith)
-      (all, before_on depth row before,
-      passed_more (directory held) (directory after) (rows_on held after grows) 0 place (row_key f depth) passed (λ z. used (sym here ∙ z)) (λ z. differ answer (row_key f depth) d (sym here ∙ z)))
+      ready_at (stage.Row depth row (place + 1)) (low, inside, omega arith) (
+        all,
+        before_on depth row before,
+        passed_more (directory held) (directory after) (rows_on held after grows) 0 place (row_key f depth) passed (λ z. used (sym here ∙ z)) (λ z. differ answer (row_key f depth) d (sym here ∙ z)),
+      )
 
   named_here : (row answer : ℕ) → row < row_count → HasAll f → IsRowAt cat after f.node (depth_of f.entry) row → answer ≢ 0 → after (row_index row (slot_of f.entry)) ≡ answer → answer ≡ value_of f
   named_here row answer low all of used here =
@@ -584,7 +589,7 @@ module _ (cat : CatData) (held after at : ℕ → ℕ) (f : FillData) (ready : I
       let e : at i ≡ answer = within i (λ z. used (sym here ∙ z)) ∙ here in
       let h : IsEntry cat at row (slot_of f.entry) (at i) = fits.entries row (slot_of f.entry) low (omega arith) (omega arith) (λ z. used (sym e ∙ z)) in
       let a : IsNamed cat at f.node (entry_of (depth_of f.entry) (slot_of f.entry)) (at i) =
-          subst (λ (u : DirectoryWord). IsNamed cat at u.node (entry_of u.depth (slot_of f.entry)) (at i)) (of at fits within) h.named in
+      subst (λ (u : DirectoryWord). IsNamed cat at u.node (entry_of u.depth (slot_of f.entry)) (at i)) (of at fits within) h.named in
       let b : IsNamed cat at f.node f.entry (at i) = subst (λ n. IsNamed cat at f.node n (at i)) (entry_back f.entry) a in
       named-only cat at fits f.node f.entry answer (value_of f) (subst (IsNamed cat at f.node f.entry) e b) (named_at cat held f ready all at grows_on)
 

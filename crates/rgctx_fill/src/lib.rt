@@ -14,10 +14,10 @@ mod spelled;
 mod stage;
 mod starting;
 mod templating;
-mod turning;
-mod values;
 #[cfg(test)]
 mod tests;
+mod turning;
+mod values;
 
 pub use beginning::opening_words;
 pub use fill::Fill;

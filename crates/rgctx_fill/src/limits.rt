@@ -13,7 +13,11 @@ use type_inst::{admitted, arguments_of};
 use type_tree::{TExpr, Tree, positions, subst_whole};
 
 // The limit that a type passes, if it does.
-pub(crate) fn type_limit(alloc: Global, program: &Program, kind: &Tree) -> Result<Option<Limit>, NoMemory>
+pub(crate) fn type_limit(
+    alloc: Global,
+    program: &Program,
+    kind: &Tree,
+) -> Result<Option<Limit>, NoMemory>
     ensures { IfOk result (λ limit. limit ≡ limit_of program.now kind.now) }
 {
     match admitted(alloc, program, kind) {
@@ -24,7 +28,11 @@ pub(crate) fn type_limit(alloc: Global, program: &Program, kind: &Tree) -> Resul
 }
 
 // The limit that an instantiated method passes, if it does.
-pub(crate) fn method_limit(alloc: Global, program: &Program, method: &MethodTree) -> Result<Option<Limit>, NoMemory>
+pub(crate) fn method_limit(
+    alloc: Global,
+    program: &Program,
+    method: &MethodTree,
+) -> Result<Option<Limit>, NoMemory>
     ensures { IfOk result (λ limit. limit ≡ limit_of_method program.now method.now) }
 {
     if is_large(method) {
@@ -82,7 +90,11 @@ fn worse(first: Option<Limit>, second: Option<Limit>) -> Option<Limit>
 }
 
 // The types of the signature and the locals of an instantiated method.
-fn kinds_named(alloc: Global, program: &Program, method: &MethodTree) -> Result<Items<Tree>, NoMemory>
+fn kinds_named(
+    alloc: Global,
+    program: &Program,
+    method: &MethodTree,
+) -> Result<Items<Tree>, NoMemory>
     ensures { IfOk result (λ kinds. kinds ≡ map (seen_at method.now) (flat_map types_of_method (option_to_list (method_at program.now method.now.method)))) }
 {
     match program.methods.as_slice().get(method.method as usize) {
@@ -92,7 +104,11 @@ fn kinds_named(alloc: Global, program: &Program, method: &MethodTree) -> Result<
 }
 
 // The types of a definition's signature and locals, as an instantiated method sees them.
-fn kinds_of(alloc: Global, method: &MethodTree, definition: &MethodDef) -> Result<Items<Tree>, NoMemory>
+fn kinds_of(
+    alloc: Global,
+    method: &MethodTree,
+    definition: &MethodDef,
+) -> Result<Items<Tree>, NoMemory>
     ensures { IfOk result (λ kinds. kinds ≡ map (seen_at method.now) (types_of_method definition.now)) }
 {
     let mut kinds = Items::new(alloc);

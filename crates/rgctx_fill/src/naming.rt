@@ -59,11 +59,7 @@ pub(crate) fn plan_of(
 }
 
 // An entry with the arguments of what a node spells put for its variables.
-pub(crate) fn closed_entry(
-    alloc: Global,
-    tree: &NodeTree,
-    named: &Entry,
-) -> Result<Entry, NoMemory>
+pub(crate) fn closed_entry(alloc: Global, tree: &NodeTree, named: &Entry) -> Result<Entry, NoMemory>
     ensures { IfOk result (λ e. e ≡ entry_at tree.now named.now) }
 {
     match named {
@@ -154,7 +150,12 @@ fn method_planned(alloc: Global, cat: &Catalogue, method: &MethodTree) -> Result
 }
 
 // The value of a slot is that of the method in it.
-fn slot_planned(alloc: Global, cat: &Catalogue, tree: &NodeTree, number: u16) -> Result<Planned, NoMemory>
+fn slot_planned(
+    alloc: Global,
+    cat: &Catalogue,
+    tree: &NodeTree,
+    number: u16,
+) -> Result<Planned, NoMemory>
     requires types { HasTypes cat.now.program.now }
     requires nameable { IsNameable cat.now.program.now }
     requires bodies { length cat.now.bodies.now < 2 ^ 32 }
@@ -193,7 +194,12 @@ fn extent_planned(alloc: Global, cat: &Catalogue, kind: &Tree) -> Result<Planned
     Ok(Planned::Plan(Vec::new(alloc), value))
 }
 
-fn offset_planned(alloc: Global, cat: &Catalogue, class: &Tree, place: u16) -> Result<Planned, NoMemory>
+fn offset_planned(
+    alloc: Global,
+    cat: &Catalogue,
+    class: &Tree,
+    place: u16,
+) -> Result<Planned, NoMemory>
     requires { HasOffset cat.now.program.now class.now place }
     ensures { (spells : NodeTree) → IfOk result (λ plan. IsPlanned (data_of cat.now) spells (entry.Offset class.now place) plan) }
 {

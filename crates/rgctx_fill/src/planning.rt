@@ -17,7 +17,10 @@ pub(crate) fn method_steps(alloc: Global, method: &MethodTree) -> Result<Vec<Nod
     add_type(alloc, &mut steps, &method.class)?;
     put_place(&mut places, steps.len())?;
     add_types(alloc, &mut steps, &mut places, method.args.as_slice())?;
-    put_step(&mut steps, step_with(method_number(method.method), places.as_slice()))?;
+    put_step(
+        &mut steps,
+        step_with(method_number(method.method), places.as_slice()),
+    )?;
     Ok(steps)
 }
 
@@ -105,13 +108,7 @@ fn head_number(head: Head) -> u16
         Head::Int64 => 2,
         Head::Bool => 3,
         Head::Vector => 4,
-        Head::Class(number) => {
-            if number < 0x7FF0 {
-                16 + number
-            } else {
-                0
-            }
-        }
+        Head::Class(number) => { if number < 0x7FF0 { 16 + number } else { 0 } }
     }
 }
 

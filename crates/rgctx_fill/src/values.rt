@@ -17,7 +17,11 @@ use type_inst::{arguments_of, is_value, layout, words_of};
 use type_tree::{Tree, copy_all};
 
 // The entry word of the body that serves a method best, 0 where none does.
-pub(crate) fn entry_word(alloc: Global, cat: &Catalogue, method: &MethodTree) -> Result<u32, NoMemory>
+pub(crate) fn entry_word(
+    alloc: Global,
+    cat: &Catalogue,
+    method: &MethodTree,
+) -> Result<u32, NoMemory>
     requires { length cat.now.bodies.now < 2 ^ 32 }
     ensures { IfOk result (λ word. IsEntryWord (data_of cat.now) method.now word) }
 {
@@ -52,7 +56,12 @@ pub(crate) fn extent_value(alloc: Global, program: &Program, kind: &Tree) -> Res
 }
 
 // The offset of the class's own field at this place, and one.
-pub(crate) fn offset_value(alloc: Global, program: &Program, class: &Tree, place: u16) -> Result<u64, NoMemory>
+pub(crate) fn offset_value(
+    alloc: Global,
+    program: &Program,
+    class: &Tree,
+    place: u16,
+) -> Result<u64, NoMemory>
     requires { HasOffset program.now class.now place }
     ensures value { IfOk result (λ value. offset_value program.now class.now place ≡ Some value) }
     ensures small { IfOk result (λ value. value < 2 ^ 63) }

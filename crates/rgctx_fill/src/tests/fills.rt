@@ -1,6 +1,7 @@
 // Turns on both kinds of words, and fills on words that are written by hand: the example of the documents, two fills interleaved at every pair of turns,
 // all node words in use, and a deep type.
-ghost use Rattle.std.specs.Prelude.{slice_index};
+ghost use Rattle.std.specs.Prelude.{◌<◌, slice_index};
+ghost use Rattle.rgctx_words.specs.Regions.{node_count};
 ghost use Rattle.rgctx_words.specs.Held.{AreFit, Within};
 ghost use Rattle.rgctx_template.specs.declared.catalogue.Catalogue.{Catalogue};
 ghost use Rattle.rgctx_template.specs.Catalogue.{data_of};
@@ -55,7 +56,7 @@ fn on_forgetful(fill: &mut Fill, words: &mut Forgetful) -> FillStep
 fn words(alloc: Global) -> Result<Vec<u64>, Fail> {
     let mut words = PlainWords::new(alloc)?.into_words();
     for i in 0..NODES.len() {
-        words[i + 1] = NODES[i];
+        let _ = claim(words.as_mut_slice(), i as u32 + 1, NODES[i]);
     }
     Ok(words)
 }
@@ -133,29 +134,45 @@ fn example_is_filled_as_told(rt: HostRuntime) -> Result<(), Fail> {
     let alloc = rt.alloc();
     let mut words = words(alloc)?;
     let mut first = example(alloc)?;
-    assert_eq!(rt; run(&mut first, words.as_mut_slice(), 1_000), (41, FillStep::Value(24)));
+    assert_eq!(rt;
+        run(&mut first, words.as_mut_slice(), 1_000),
+        (41, FillStep::Value(24))
+    );
     for (i, word) in LEFT {
         assert_eq!(rt; words.get(i).copied(), Some(word));
     }
     let mut second = example(alloc)?;
-    assert_eq!(rt; run(&mut second, words.as_mut_slice(), 1_000), (33, FillStep::Value(24)));
+    assert_eq!(rt;
+        run(&mut second, words.as_mut_slice(), 1_000),
+        (33, FillStep::Value(24))
+    );
     Ok(())
+}
+
+// Puts the words back that the fill of the example leaves.
+fn clear(words: &mut [u64]) {
+    for (i, _) in LEFT {
+        if i < words.len() {
+            words[i] = 0;
+        }
+    }
 }
 
 #[test]
 fn fills_interleave_at_every_pair_of_turns(rt: HostRuntime) -> Result<(), Fail> {
     let alloc = rt.alloc();
+    let mut words = words(alloc)?;
     for before in 0..42 {
         for between in 0..42 {
-            let mut words = words(alloc)?;
+            clear(words.as_mut_slice());
             let mut first = example(alloc)?;
             let mut second = example(alloc)?;
-            let _ = run(&mut first, words.as_mut_slice(), before);
-            let _ = run(&mut second, words.as_mut_slice(), between);
-            let ended = run(&mut first, words.as_mut_slice(), 1_000);
-            let other = run(&mut second, words.as_mut_slice(), 1_000);
-            assert!(rt; before == 41 || ended.1 == FillStep::Value(24));
-            assert!(rt; between == 41 || other.1 == FillStep::Value(24));
+            let (_, early) = run(&mut first, words.as_mut_slice(), before);
+            let (_, other_early) = run(&mut second, words.as_mut_slice(), between);
+            let (_, late) = run(&mut first, words.as_mut_slice(), 100);
+            let (_, other_late) = run(&mut second, words.as_mut_slice(), 100);
+            assert!(rt; early == FillStep::Value(24) || late == FillStep::Value(24));
+            assert!(rt; other_early == FillStep::Value(24) || other_late == FillStep::Value(24));
             for (i, word) in LEFT {
                 assert_eq!(rt; words.get(i).copied(), Some(word));
             }
@@ -164,22 +181,36 @@ fn fills_interleave_at_every_pair_of_turns(rt: HostRuntime) -> Result<(), Fail> 
     Ok(())
 }
 
+// The word of a class without arguments, another one for each node.
+fn plain(node: u16) -> u64
+    requires { node < node_count }
+{
+    (1_000 + u64::from(node)) * 0x1_0000_0000_0000
+}
+
+// All node words are in use, the last thirty by fills.
 #[test]
 fn all_nodes_are_used_and_then_there_is_no_place(rt: HostRuntime) -> Result<(), Fail> {
     let alloc = rt.alloc();
     let mut words = words(alloc)?;
-    for node in 24..4_096 {
+    for node in 24..4_066 {
+        let _ = claim(words.as_mut_slice(), u32::from(node), plain(node));
+    }
+    for node in 4_066..4_096 {
         let mut fill = Fill::begun(alloc, node, 0, alone(alloc, 1_000 + node)?, 0)?;
         let (_, gave) = run(&mut fill, words.as_mut_slice(), 10_000);
         assert_eq!(rt; gave, FillStep::Value(u64::from(node)));
-        assert_ne!(rt; load(words.as_slice(), u32::from(node)), 0);
+        assert_eq!(rt; load(words.as_slice(), u32::from(node)), plain(node));
     }
     let mut late = Fill::begun(alloc, 23, 1, alone(alloc, 9_999)?, 0)?;
-    let (_, gave) = run(&mut late, words.as_mut_slice(), 10_000);
+    let (turns, gave) = run(&mut late, words.as_mut_slice(), 10_000);
+    assert_eq!(rt; turns, 4_096);
     assert_eq!(rt; gave, FillStep::Full(Region::Nodes, 0x270F_0000_0000_0000));
-    let (turns, again) = run(&mut late, words.as_mut_slice(), 10_000);
-    assert_eq!(rt; turns, 1);
-    assert_eq!(rt; again, FillStep::Full(Region::Nodes, 0x270F_0000_0000_0000));
+    let again = run(&mut late, words.as_mut_slice(), 10_000);
+    assert_eq!(rt;
+        again,
+        (1, FillStep::Full(Region::Nodes, 0x270F_0000_0000_0000))
+    );
     Ok(())
 }
 

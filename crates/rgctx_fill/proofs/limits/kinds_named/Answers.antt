@@ -11,8 +11,8 @@ returns-in-Some c =
     let m = c.args.method.now in
     let listed = c.as_slice.result.now in
     let some : method_at p m.method ≡ Some c.in-Some.definition.now =
-        ap (λ ms. slice_get ms m.method) (sym c.as_slice.ensures)
-        ∙ slice_get_read listed (length listed) m.method c.in-Some.definition.now refl c.in-Some.ensures.lookup.3.0 c.in-Some.ensures.lookup.1 in
+    ap (λ ms. slice_get ms m.method) (sym c.as_slice.ensures)
+    ∙ slice_get_read listed (length listed) m.method c.in-Some.definition.now refl c.in-Some.ensures.lookup.3.0 c.in-Some.ensures.lookup.1 in
     subst (λ named. IfOk c.kinds_of.result (λ kinds. kinds ≡ named)) (kinds-some m (method_at p m.method) c.in-Some.definition.now some) c.kinds_of.ensures
 
 pub returns-in-None : goal.returns-in-None

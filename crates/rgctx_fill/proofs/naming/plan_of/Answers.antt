@@ -13,7 +13,7 @@ returns-in_ok-copy_all-in-Method c =
     let class : c.in_ok-copy-in-Method.field-0 ≡ c.in-Method.class = search rules in
     let args : c.in_ok-copy_all-in-Method.field-0 ≡ c.in-Method.args = search rules in
     let copied : entry.Method c.in-Method.number c.in_ok-copy-in-Method.field-0 c.in_ok-copy_all-in-Method.field-0 ≡ c.args.named.now =
-        ap (λ k. entry.Method c.in-Method.number k c.in_ok-copy_all-in-Method.field-0) class ∙ ap (entry.Method c.in-Method.number c.in-Method.class) args ∙ sym c.in-Method.is in
+    ap (λ k. entry.Method c.in-Method.number k c.in_ok-copy_all-in-Method.field-0) class ∙ ap (entry.Method c.in-Method.number c.in-Method.class) args ∙ sym c.in-Method.is in
     subst (λ e. IfOk c.method_planned.result (λ plan. IsPlanned (data_of c.args.cat.now) c.args.tree.now e plan)) copied (c.method_planned.ensures.method c.args.tree.now)
 
 pub returns-in-Size : goal.returns-in-Size

@@ -28,8 +28,8 @@ add_type-returns-in_ok-put_step-in-Node t c =
     let added = c.in_ok-add_types-in-Node.ensures {u = tt} in
     let steps_are : c.add_types.new.steps.items ≡ c.args.steps.now.items ++ types_steps parts n = added.steps ∙ ap (λ ts. c.args.steps.now.items ++ types_steps ts n) c.as_slice.ensures in
     let places_are : places ≡ types_places parts n =
-        added.places ∙ ap (λ ps. ps ++ types_places c.as_slice.result.now n) c.new-places.ensures.items ∙ ap (λ ts. types_places ts n) c.as_slice.ensures in
+    added.places ∙ ap (λ ps. ps ++ types_places c.as_slice.result.now n) c.new-places.ensures.items ∙ ap (λ ts. types_places ts n) c.as_slice.ensures in
     let own : c.step_with.result ≡ step_with (head_number head) places =
-        c.step_with.ensures ∙ ap (λ d. step_with d c.as_slice-in-Node.result.now) c.head_number.ensures ∙ ap (step_with (head_number head)) c.as_slice-in-Node.ensures.value in
+    c.step_with.ensures ∙ ap (λ d. step_with d c.as_slice-in-Node.result.now) c.head_number.ensures ∙ ap (step_with (head_number head)) c.as_slice-in-Node.ensures.value in
     own-steps c.args.kind.now head parts c.args.steps.now.items c.add_types.new.steps.items c.put_step.new.steps.items places n (sym c.top.ensures ∙ c.in-Node.is) steps_are places_are
     (c.in_ok-put_step-in-Node.ensures {u = tt} ∙ ap (λ s. c.add_types.new.steps.items ++ s ∷ []) own)

@@ -19,7 +19,7 @@ plan_of-requires-clause-whole g c =
     let e = c.in-Some.named.now in
     let listed : es ≡ tree_template cat t = search rules in
     let item : slice_get (tree_template cat t) c.args.entry ≡ Some e =
-        ap (λ l. slice_get l c.args.entry) (sym listed) ∙ slice_get_read es (length es) c.args.entry e refl c.in-Some.ensures.lookup.3.0 c.in-Some.ensures.lookup.1 in
+    ap (λ l. slice_get l c.args.entry) (sym listed) ∙ slice_get_read es (length es) c.args.entry e refl c.in-Some.ensures.lookup.3.0 c.in-Some.ensures.lookup.1 in
     own-whole cat after c.args.node c.args.entry t o c.requires.fillable e c.in_ok-own-in-Some.own item (c.in_ok-own-in-Some.ensures {u = tt})
 
 pub returns-in-Plan-clause-starts : goal.returns-in-Plan-clause-starts
@@ -34,7 +34,7 @@ returns-in-Plan-clause-starts g c =
     let e = c.in-Some.named.now in
     let listed : es ≡ tree_template cat t = search rules in
     let item : slice_get (tree_template cat t) c.args.entry ≡ Some e =
-        ap (λ l. slice_get l c.args.entry) (sym listed) ∙ slice_get_read es (length es) c.args.entry e refl c.in-Some.ensures.lookup.3.0 c.in-Some.ensures.lookup.1 in
+    ap (λ l. slice_get l c.args.entry) (sym listed) ∙ slice_get_read es (length es) c.args.entry e refl c.in-Some.ensures.lookup.3.0 c.in-Some.ensures.lookup.1 in
     let planned = subst (IsPlanned cat t c.in_ok-own-in-Some.own) c.in-Plan.is (c.in_ok-steps-in-Some.ensures {u = tt}) in
     subst (IsBegun cat after c.args.node c.args.entry) (sym (c.in_ok-fill-in-Plan.ensures {u = tt}))
     (begins cat after c.args.node c.args.entry t o c.requires.fillable e c.in_ok-own-in-Some.own item (c.in_ok-own-in-Some.ensures {u = tt}) c.in-Plan.steps.items c.in-Plan.base c.requires.number.0 c.requires.number.1 planned)
@@ -51,7 +51,7 @@ returns-in-Some-clause-starts g c =
     let e = c.in-Some.named.now in
     let listed : es ≡ tree_template cat t = search rules in
     let item : slice_get (tree_template cat t) c.args.entry ≡ Some e =
-        ap (λ l. slice_get l c.args.entry) (sym listed) ∙ slice_get_read es (length es) c.args.entry e refl c.in-Some.ensures.lookup.3.0 c.in-Some.ensures.lookup.1 in
+    ap (λ l. slice_get l c.args.entry) (sym listed) ∙ slice_get_read es (length es) c.args.entry e refl c.in-Some.ensures.lookup.3.0 c.in-Some.ensures.lookup.1 in
     refuses cat after c.args.node c.args.entry t o c.requires.fillable e c.in_ok-own-in-Some.own item (c.in_ok-own-in-Some.ensures {u = tt}) c.in-Refused.limit
     (subst (IsPlanned cat t c.in_ok-own-in-Some.own) c.in-Refused.is (c.in_ok-steps-in-Some.ensures {u = tt}))
 
