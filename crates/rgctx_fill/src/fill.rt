@@ -37,8 +37,9 @@ impl Model for Fill {
 }
 
 impl Fill {
-    // A fill of which no node is found.
-    pub(crate) fn begun(
+    /// A fill of an entry of a node of which no node is found yet: the nodes that its value needs, and what is added
+    /// to the number of the last to give the value. `start` makes it of words and a catalogue.
+    pub fn begun(
         alloc: Global,
         node: u16,
         entry: u16,
@@ -105,8 +106,8 @@ impl Fill {
         }
     }
 
-    // What the turn that leads here gives.
-    pub(crate) fn given(&self) -> FillStep
+    /// What the turn that leads here gives.
+    pub fn given(&self) -> FillStep
         ensures { result ≡ given_at self.now.stage }
     {
         match self.stage {
@@ -121,8 +122,9 @@ impl Fill {
         }
     }
 
-    // Takes the answer to the next turn.
-    pub(crate) fn take(&mut self, answer: u64)
+    /// Takes the answer to what `next` says: the word that was loaded, or the one that a claim found. `turn` makes both
+    /// steps.
+    pub fn take(&mut self, answer: u64)
         requires { HasPlace self.old.stage }
         ensures { self.new ≡ taken self.old answer }
     {
