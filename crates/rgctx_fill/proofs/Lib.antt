@@ -7,3 +7,10 @@ pub mod ShownLaws
 pub mod EntryLaws
 pub mod TextLeaves
 pub mod OpeningWords
+pub mod PlanLemmas
+pub mod TurnLemmas
+pub mod PartLemmas
+pub mod StepLemmas
+pub mod StartLemmas
+pub mod InterleavedLaws
+pub mod LoopLemmas

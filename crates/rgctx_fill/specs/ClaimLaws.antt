@@ -122,13 +122,13 @@ module _ (cat : CatData) (at new held : ℕ → ℕ) (i word : ℕ) (fits : AreF
 
   links_kept : (row : ℕ) → row < row_count → new (row_index row 0) ≢ 0 → IsNext new row (new (row_index row 0))
   links_kept row low used = ⊎_elim
-      (λ (e : row_index row 0 ≡ i). subst (IsNext new row) (sym (claimed_word _ e)) (next-grows cat held new held_grows row word (claimed (row_index row 0) (place.Link row) e (link-place row))))
+      (λ (e : row_index row 0 ≡ i). subst (IsNext new row) (sym (claimed_word _ e)) (next-grows cat at new claim-grows row word (claimed (row_index row 0) (place.Link row) e (link-place row) at fits within)))
       (λ (ne : row_index row 0 ≢ i). subst (IsNext new row) (sym (others _ ne)) (next-grows cat at new claim-grows row (at (row_index row 0)) (fits.links row low (λ z. used (others _ ne ∙ z)))))
       (cases_eq (row_index row 0) i)
 
   entries_kept : (row slot : ℕ) → row < row_count → 0 < slot → slot < row_words → new (row_index row slot) ≢ 0 → IsEntry cat new row slot (new (row_index row slot))
   entries_kept row slot low first last used = ⊎_elim
-      (λ (e : row_index row slot ≡ i). subst (IsEntry cat new row slot) (sym (claimed_word _ e)) (entry-grows cat held new held_grows row slot word (claimed (row_index row slot) (place.Entry row slot) e (entry-place row slot first last))))
+      (λ (e : row_index row slot ≡ i). subst (IsEntry cat new row slot) (sym (claimed_word _ e)) (entry-grows cat at new claim-grows row slot word (claimed (row_index row slot) (place.Entry row slot) e (entry-place row slot first last) at fits within)))
       (λ (ne : row_index row slot ≢ i). subst (IsEntry cat new row slot) (sym (others _ ne)) (entry-grows cat at new claim-grows row slot (at (row_index row slot)) (fits.entries row slot low first last (λ z. used (others _ ne ∙ z)))))
       (cases_eq (row_index row slot) i)
 

@@ -28,13 +28,17 @@ pub record MayRow (cat : CatData) (held : ℕ → ℕ) (row word : ℕ) : Type 0
   pub passed : ArePassed (directory held) 0 row word
   pub rightly : IsRow cat held (directory_read word)
 
--- what may be claimed at a place
+-- all words that fit and have what is held are so
+abbrev pub IsSure : CatData → (ℕ → ℕ) → ((ℕ → ℕ) → Type 0) → Type 0
+IsSure cat held P = (at : ℕ → ℕ) → AreFitting cat at → Grows held at → P at
+
+-- what may be claimed at a place. A link or an entry is claimed in a row of which the held words show whose it is, be it by a root or a link that leads to it
 abbrev pub MayClaim : CatData → (ℕ → ℕ) → ℕ → ContextPlace → Type 0
 MayClaim cat held word (place.Node i) = MayNode cat held i word
 MayClaim cat held word (place.Directory row) = MayRow cat held row word
 MayClaim cat held word (place.Root i) = IsRowOf held i 0 word
-MayClaim cat held word (place.Link row) = IsNext held row word
-MayClaim cat held word (place.Entry row slot) = IsEntry cat held row slot word
+MayClaim cat held word (place.Link row) = IsSure cat held (λ at. IsNext at row word)
+MayClaim cat held word (place.Entry row slot) = IsSure cat held (λ at. IsEntry cat at row slot word)
 
 -- one who holds these words may claim the word at the index
 abbrev pub Allows : CatData → (ℕ → ℕ) → ℕ → ℕ → Type 0
@@ -62,10 +66,6 @@ NamesFrom (place.Entry row slot) word j = j ≡ directory_index row
 -- the word at the index names the other index
 abbrev pub Names : ℕ → ℕ → ℕ → Type 0
 Names i word j = NamesFrom (place_of i) word j
-
--- all words that fit and have what is held are so
-abbrev pub IsSure : CatData → (ℕ → ℕ) → ((ℕ → ℕ) → Type 0) → Type 0
-IsSure cat held P = (at : ℕ → ℕ) → AreFitting cat at → Grows held at → P at
 
 -- what is held shows that the index holds a word
 abbrev pub Shows : CatData → (ℕ → ℕ) → ℕ → Type 0

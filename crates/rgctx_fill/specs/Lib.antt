@@ -7,6 +7,12 @@ pub mod Fitting
 pub mod Claims
 pub mod Reading
 pub mod Turns
+pub mod Plans
+pub mod Ready
+pub mod Steps
+pub mod Limits
+pub mod Starting
+pub mod Interleaved
 pub mod SpelledLaws
 pub mod PlaceLaws
 pub mod GrowthLaws

@@ -110,6 +110,10 @@ with_stage f s = record { node = f.node; entry = f.entry; base = f.base; steps =
 abbrev pub first_stage : List NodeStep → ℕ → Stage
 first_stage steps found = if nat_lt found (length steps) then stage.Node 1 else stage.Link 0 0
 
+-- a fill of which no node is found
+abbrev pub begun : ℕ → ℕ → List NodeStep → ℕ → FillData
+begun node entry steps base = record { node = node; entry = entry; base = base; steps = steps; found = []; stage = first_stage steps 0 }
+
 abbrev pub with_node : FillData → ℕ → FillData
 with_node f number = record {
   node = f.node;

@@ -1,14 +1,16 @@
 // A fill under way, and what its next turn does.
-ghost use Rattle.std.specs.Prelude.{◌≡◌, ◌≤◌, ◌<◌, Some, length};
+ghost use Rattle.std.specs.Prelude.{◌≡◌, ◌≤◌, ◌<◌, ◌^◌, IfOk, Some, length};
 ghost use Rattle.rgctx_words.specs.Regions.{node_count, row_count};
 ghost use Rattle.rgctx_words.specs.Places.{depth_of};
 ghost use Rattle.rgctx_fill.specs.declared.stage.Stage.TheVariants as stage;
-ghost use Rattle.rgctx_fill.specs.Turns.{IsFill, IsAt, HasPlace, node_for, word_for, node_key, row_key, link_index, value_of, next_of, with_stage, with_node, at_row, row_or_first, taken_at, taken};
+ghost use Rattle.rgctx_fill.specs.Turns.{IsFill, IsAt, HasPlace, node_for, word_for, node_key, row_key, link_index, value_of, next_of, with_stage, with_node, at_row, row_or_first, taken_at, taken, given_at, begun};
 
-use crate::stage::{FillNext, NodeStep, Region, Stage};
+use crate::stage::{FillNext, FillStep, NodeStep, Region, Stage};
+use mn_outside::NoMemory;
 use rgctx_words::{
     ContextPlace, DirectoryWord, NODES, NodeWord, ROWS, depth_of, row_address, row_at, slot_of,
 };
+use std::alloc::Global;
 use std::marker::Model;
 
 /// A fill of one entry of a node, under way: the nodes that the value needs, those of them that are found, and where
@@ -35,6 +37,38 @@ impl Model for Fill {
 }
 
 impl Fill {
+    /// A fill of an entry of a node of which no node is found yet: the nodes that its value needs, and what is added
+    /// to the number of the last to give the value. `start` makes it of words and a catalogue.
+    pub fn begun(
+        alloc: Global,
+        node: u16,
+        entry: u16,
+        steps: Vec<NodeStep>,
+        base: u64,
+    ) -> Result<Fill, NoMemory>
+        requires number { (0 < node) × (node < node_count) }
+        requires depths { depth_of entry < 256 }
+        requires small { base < 2 ^ 63 }
+        ensures { IfOk result (λ fill. fill ≡ begun node entry steps.items base) }
+    {
+        let Ok(found) = Vec::with_capacity(alloc, steps.len()) else {
+            return Err(NoMemory);
+        };
+        let stage = if 0 < steps.len() {
+            Stage::Node(1)
+        } else {
+            Stage::Link(0, 0)
+        };
+        Ok(Fill {
+            node,
+            entry,
+            base,
+            steps,
+            found,
+            stage,
+        })
+    }
+
     /// What the next turn does: the index that it loads, or the index and the word that it claims.
     pub fn next(&self) -> FillNext
         ensures { result ≡ next_of self.now }
@@ -72,8 +106,25 @@ impl Fill {
         }
     }
 
-    // Takes the answer to the next turn.
-    fn take(&mut self, answer: u64)
+    /// What the turn that leads here gives.
+    pub fn given(&self) -> FillStep
+        ensures { result ≡ given_at self.now.stage }
+    {
+        match self.stage {
+            Stage::Done(value) => FillStep::Value(value),
+            Stage::Node(_)
+            | Stage::NodeClaim(_)
+            | Stage::Link(_, _)
+            | Stage::Row(_, _, _)
+            | Stage::RowClaim(_, _, _)
+            | Stage::Tie(_, _, _)
+            | Stage::Entry(_) => FillStep::More,
+        }
+    }
+
+    /// Takes the answer to what `next` says: the word that was loaded, or the one that a claim found. `turn` makes both
+    /// steps.
+    pub fn take(&mut self, answer: u64)
         requires { HasPlace self.old.stage }
         ensures { self.new ≡ taken self.old answer }
     {
@@ -260,9 +311,9 @@ fn word_for(found: &[u16], step: NodeStep) -> u64
 {
     NodeWord {
         definition: step.definition,
-        first: node_for(found, step.first as usize),
-        second: node_for(found, step.second as usize),
-        third: node_for(found, step.third as usize),
+        first: node_for(found, step.first),
+        second: node_for(found, step.second),
+        third: node_for(found, step.third),
     }
     .word()
 }

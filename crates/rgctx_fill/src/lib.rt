@@ -5,16 +5,23 @@ mod applying;
 mod beginning;
 mod fill;
 pub mod laws;
+mod limits;
+mod naming;
+mod planning;
 mod reading;
 mod rule;
 mod spelled;
 mod stage;
+mod starting;
 mod templating;
 #[cfg(test)]
 mod tests;
+mod turning;
+mod values;
 
 pub use beginning::opening_words;
 pub use fill::Fill;
 pub use rule::Fits;
 pub use spelled::{NodeTemplate, NodeTree};
 pub use stage::{FillNext, FillStep, NodeStep, Region, Stage};
+pub use starting::FillStart;

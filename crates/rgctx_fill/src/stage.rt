@@ -5,9 +5,9 @@
 #[derive(Clone, Copy, Debug, PartialEq, Eq)]
 pub struct NodeStep {
     pub definition: u16,
-    pub first: u16,
-    pub second: u16,
-    pub third: u16,
+    pub first: usize,
+    pub second: usize,
+    pub third: usize,
 }
 
 /// Where a fill stands.

@@ -52,7 +52,11 @@ pub fn node_template<W: Words<Fits>>(
 }
 
 // The template of what a node spells.
-fn tree_template(alloc: Global, cat: &Catalogue, tree: &NodeTree) -> Result<Items<Entry>, NoMemory>
+pub(crate) fn tree_template(
+    alloc: Global,
+    cat: &Catalogue,
+    tree: &NodeTree,
+) -> Result<Items<Entry>, NoMemory>
     requires types { HasTypes cat.now.program.now }
     requires slots { EachClass HasFewSlots cat.now.program.now }
     ensures { IfOk result (λ entries. entries ≡ tree_template (data_of cat.now) tree.now) }

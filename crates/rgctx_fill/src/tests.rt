@@ -1,4 +1,5 @@
-// The readers and the leaves, on words written by hand.
+// The readers, the leaves and fills, on words written by hand.
+mod fills;
 mod forgetful;
 mod leaves;
 mod readers;
