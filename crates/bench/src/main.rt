@@ -2,6 +2,7 @@
 #![tactic(auto)]
 
 mod cases;
+mod fills;
 mod memory;
 mod requests;
 mod texts;
@@ -58,6 +59,13 @@ fn types_line(alloc: Global, levels: u32, rounds: u32) -> Result<String, AllocEr
     }
 }
 
+fn fills_line(alloc: Global, nodes: u32, fills: u32) -> Result<String, AllocError> {
+    match fills::fills_of(alloc, nodes as u16, fills) {
+        Ok(filled) => format!(in alloc; "{} values in {} turns", filled.values, filled.turns),
+        Err(NoMemory) => String::from_str(alloc, "no memory"),
+    }
+}
+
 fn main(rt: HostRuntime) -> io::Result<()> {
     let alloc = rt.alloc();
     let words = words(&rt)?;
@@ -81,6 +89,9 @@ fn main(rt: HostRuntime) -> io::Result<()> {
     } else if case == "types" {
         let line = types_line(alloc, first, number(words.as_slice(), 2))?;
         println!(rt; "{line}")?;
+    } else if case == "fills" {
+        let line = fills_line(alloc, first, number(words.as_slice(), 2))?;
+        println!(rt; "{line}")?;
     } else {
         // Each case once, tiny.
         println!(rt; "{}", tokens_line(alloc, 640, 1)?)?;
@@ -88,6 +99,7 @@ fn main(rt: HostRuntime) -> io::Result<()> {
         println!(rt; "{}", store_line(alloc, 800)?)?;
         println!(rt; "{}", types_line(alloc, 5, 1)?)?;
         println!(rt; "{}", texts::parse_line(alloc, 2, 1)?)?;
+        println!(rt; "{}", fills_line(alloc, 40, 2)?)?;
     }
     Ok(())
 }
