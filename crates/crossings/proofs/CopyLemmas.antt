@@ -1,17 +1,17 @@
 -- What a copied word, a copied argument, and all arguments make of memory.
-use Rattle.std.proofs.Common.{◌≡◌, ℕ, zero, suc, ◌+◌, ◌-◌, ◌*◌, ◌/◌, ◌%◌, ◌<◌, ◌≤◌, ◌==◌, ◌&&◌, Bool, true, false, List, [], ◌∷◌, ◌++◌, length, map, get_or, if◌then◌else◌, refl, sym, ap, ◌∙◌, arith, subst, length-append, length-set, ext_get_or, inl, inr, ◌≢◌}
+use Rattle.std.proofs.Common.{◌≡◌, ℕ, suc, ◌+◌, ◌-◌, ◌*◌, ◌/◌, ◌%◌, ◌<◌, ◌≤◌, ◌&&◌, true, false, List, ◌++◌, length, map, get_or, if◌then◌else◌, refl, sym, ap, ◌∙◌, arith, subst, length-append, length-set, ext_get_or, inl, inr, ◌≢◌}
 use Rattle.std.specs.Prelude.{nat_lt, nat_le, slice_index}
 use Rattle.std.specs.List.{range_with_len}
 use Rattle.std.proofs.lemmas.Bool.Decides.{nat_tests, leb_tells, eqb_tells}
 use Rattle.std.proofs.lemmas.List.{get_or_past}
 use Rattle.std.proofs.lemmas.List.FromFn.{length-map-range_with_len, get_or-map-range_with_len}
 use Rattle.rgctx_words.specs.declared.frame.NewFrame.{NewFrame}
-use Rattle.rgctx_words.specs.Frames.{header, header_words, header_count, place_words}
+use Rattle.rgctx_words.specs.Frames.{header, header_words, header_count}
 use Rattle.rgctx_words.specs.Memory.{put, beyond}
 use Rattle.rgctx_words.specs.Stacks.{StackWords, mem_of, current_address, with_word}
 use Rattle.rgctx_words.proofs.MemoryLemmas.{memory, memory-append, same_memory}
-use Rattle.crossings.specs.Calls.{argument_word, has_word, interpreted_word}
-use Rattle.crossings.specs.Copies.{copied, is_argument, with_arguments}
+use Rattle.crossings.specs.Calls.{argument_word, interpreted_word}
+use Rattle.crossings.specs.Copies.{copied, with_arguments}
 
 -- ---- one word after the other
 
@@ -45,9 +45,9 @@ arguments-below base words list widths n mem k less = let t : nat_le (base + hea
 by_order : (P : Type 0) (i n : ℕ) → (i < n → P) → (i ≡ n → P) → (n < i → P) → P
 by_order P i n before same behind =
     elim (leb_tells (suc i) n) as (λ _. P) [
-      inl less ↦ before less.1
+      | inl less ↦ before less.1
       | inr more ↦ elim (eqb_tells i n) as (λ _. P) [
-        inl is ↦ same is.1
+        | inl is ↦ same is.1
         | inr other ↦ behind (let a : n < suc i = more.1 in let b : i ≢ n = other.1 in omega arith)
       ]
     ]
@@ -71,16 +71,16 @@ placed_at at n w widths argument word mem k j is width same =
     let u : nat_lt n (n + 1) ≡ true = grind (arith, nat_tests) in
     let e : k - (at + 16 * n) ≡ j = omega arith in
     rw (← width) (rw f (rw t (rw u (elim (leb_tells (suc j) w) as (λ _. (if nat_lt k (at + 16 * n + w) then word (k - (at + 16 * n)) else mem k) ≡ (if nat_lt j w then argument n j else mem k)) [
-      inl inside ↦ (
-        let a : suc j ≤ w = inside.1 in
-        let g : nat_lt k (at + 16 * n + w) ≡ true = grind (arith, nat_tests) in
-        let h : nat_lt j w ≡ true = inside.0 in
-        rw g (rw h (ap word e ∙ same j a)))
+      | inl inside ↦ (
+          let a : suc j ≤ w = inside.1 in
+          let g : nat_lt k (at + 16 * n + w) ≡ true = grind (arith, nat_tests) in
+          let h : nat_lt j w ≡ true = inside.0 in
+          rw g (rw h (ap word e ∙ same j a)))
       | inr outside ↦ (
-        let a : w < suc j = outside.1 in
-        let g : nat_lt k (at + 16 * n + w) ≡ false = grind (arith, nat_tests) in
-        let h : nat_lt j w ≡ false = outside.0 in
-        rw g (rw h refl))
+          let a : w < suc j = outside.1 in
+          let g : nat_lt k (at + 16 * n + w) ≡ false = grind (arith, nat_tests) in
+          let h : nat_lt j w ≡ false = outside.0 in
+          rw g (rw h refl))
     ]))))
 
 placed_behind : (at n w : ℕ) (widths : List ℕ) (argument : ℕ → ℕ → ℕ) (word mem : ℕ → ℕ) (k i j : ℕ) → k ≡ at + (16 * i + j) → w ≤ 16 → n < i
@@ -126,7 +126,7 @@ pub arguments-next : (base : ℕ) (words : List ℕ) (list : ℕ) (widths : List
     → copied (base + (8 + 16 * n)) w word (with_arguments base words list widths n mem) ≡ with_arguments base words list widths (n + 1) mem
 arguments-next base words list widths n w word mem wide width same =
     same_memory (λ k. elim (leb_tells (base + 8) k) as (λ _. copied (base + (8 + 16 * n)) w word (with_arguments base words list widths n mem) k ≡ with_arguments base words list widths (n + 1) mem k) [
-      inl more ↦ next_behind base words list widths n w word mem k more.1 wide width same
+      | inl more ↦ next_behind base words list widths n w word mem k more.1 wide width same
       | inr less ↦ next_before base words list widths n w word mem k less.1
     ])
 
@@ -140,28 +140,28 @@ arrive_at : (s : StackWords) (list : ℕ) (widths : List ℕ) (f : NewFrame) (k 
     ≡ beyond (length s.words) (interpreted_word s list widths f) (mem_of s) k
 arrive_at s list widths f k =
     elim (leb_tells (suc k) (length s.words)) as (λ _. with_arguments (length s.words) s.words list widths (length widths) (beyond (length s.words) (header (current_address s) f) (mem_of s)) k ≡ beyond (length s.words) (interpreted_word s list widths f) (mem_of s) k) [
-      inl below ↦ (
-        let h : k < length s.words = below.1 in
-        let a : nat_le (length s.words + 8) k ≡ false = grind (arith, nat_tests) in
-        let b : nat_lt k (length s.words) ≡ true = below.0 in
-        rw a (rw b refl))
+      | inl below ↦ (
+          let h : k < length s.words = below.1 in
+          let a : nat_le (length s.words + 8) k ≡ false = grind (arith, nat_tests) in
+          let b : nat_lt k (length s.words) ≡ true = below.0 in
+          rw a (rw b refl))
       | inr above ↦ (
-        let h : length s.words < suc k = above.1 in
-        let b : nat_lt k (length s.words) ≡ false = above.0 in
-        elim (leb_tells (suc (k - length s.words)) 8) as (λ _. with_arguments (length s.words) s.words list widths (length widths) (beyond (length s.words) (header (current_address s) f) (mem_of s)) k ≡ beyond (length s.words) (interpreted_word s list widths f) (mem_of s) k) [
-          inl inside ↦ (
-            let i : suc (k - length s.words) ≤ 8 = inside.1 in
-            let a : nat_le (length s.words + 8) k ≡ false = grind (arith, nat_tests) in
-            let c : nat_lt (k - length s.words) 8 ≡ true = inside.0 in
-            rw a (rw b (rw c refl)))
-          | inr behind ↦ (
-            let i : 8 < suc (k - length s.words) = behind.1 in
-            let a : nat_le (length s.words + 8) k ≡ true = grind (arith, nat_tests) in
-            let c : nat_lt (k - length s.words) 8 ≡ false = behind.0 in
-            let e : k - (length s.words + 8) ≡ k - length s.words - 8 = omega arith in
-            let z : header (current_address s) f (k - length s.words) ≡ 0 = header_past (current_address s) f (k - length s.words) (omega arith) in
-            rw a (rw e (rw b (rw c (rw z refl)))))
-        ])
+          let h : length s.words < suc k = above.1 in
+          let b : nat_lt k (length s.words) ≡ false = above.0 in
+          elim (leb_tells (suc (k - length s.words)) 8) as (λ _. with_arguments (length s.words) s.words list widths (length widths) (beyond (length s.words) (header (current_address s) f) (mem_of s)) k ≡ beyond (length s.words) (interpreted_word s list widths f) (mem_of s) k) [
+            | inl inside ↦ (
+                let i : suc (k - length s.words) ≤ 8 = inside.1 in
+                let a : nat_le (length s.words + 8) k ≡ false = grind (arith, nat_tests) in
+                let c : nat_lt (k - length s.words) 8 ≡ true = inside.0 in
+                rw a (rw b (rw c refl)))
+            | inr behind ↦ (
+                let i : 8 < suc (k - length s.words) = behind.1 in
+                let a : nat_le (length s.words + 8) k ≡ true = grind (arith, nat_tests) in
+                let c : nat_lt (k - length s.words) 8 ≡ false = behind.0 in
+                let e : k - (length s.words + 8) ≡ k - length s.words - 8 = omega arith in
+                let z : header (current_address s) f (k - length s.words) ≡ 0 = header_past (current_address s) f (k - length s.words) (omega arith) in
+                rw a (rw e (rw b (rw c (rw z refl)))))
+          ])
     ]
 
 -- the header with the arguments in their places is the interpreted callee's frame
@@ -176,11 +176,11 @@ tail_word : (xs ys : List ℕ) (count : ℕ) (f : ℕ → ℕ) → length xs ≡
 tail_word xs ys count f size is i less =
     ap (λ m. m i) is
     ∙ (elim (leb_tells (suc i) (length ys)) as (λ _. beyond (length ys) f (memory ys) i ≡ beyond (length ys) (memory (map f (range_with_len 0 count))) (memory ys) i) [
-      inl below ↦ (let b : nat_lt i (length ys) ≡ true = below.0 in rw b refl)
+      | inl below ↦ (let b : nat_lt i (length ys) ≡ true = below.0 in rw b refl)
       | inr above ↦ (
-        let h : length ys < suc i = above.1 in
-        let b : nat_lt i (length ys) ≡ false = above.0 in
-        rw b (sym (get_or-map-range_with_len f 0 count (i - length ys) (i - length ys) 0 (omega arith) (omega arith))))
+          let h : length ys < suc i = above.1 in
+          let b : nat_lt i (length ys) ≡ false = above.0 in
+          rw b (sym (get_or-map-range_with_len f 0 count (i - length ys) (i - length ys) 0 (omega arith) (omega arith))))
     ])
     ∙ sym (ap (λ m. m i) (memory-append ys (map f (range_with_len 0 count))))
 

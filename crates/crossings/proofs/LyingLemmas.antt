@@ -1,12 +1,10 @@
 -- Which word begins at an address, and when words lie in the frames.
-use Rattle.std.proofs.Common.{◌≡◌, ℕ, zero, suc, ◌+◌, ◌-◌, ◌*◌, ◌/◌, ◌%◌, ◌<◌, ◌≤◌, ◌==◌, ◌&&◌, Bool, true, false, List, length, take, if◌then◌else◌, refl, sym, ap, ◌∙◌, arith, subst, length-take, eq-or-lt_of_le, inl, inr}
+use Rattle.std.proofs.Common.{◌≡◌, ℕ, suc, ◌+◌, ◌-◌, ◌*◌, ◌/◌, ◌%◌, ◌<◌, ◌≤◌, ◌==◌, ◌&&◌, Bool, true, false, List, length, if◌then◌else◌, refl, sym, ap, ◌∙◌, arith, subst, eq-or-lt_of_le, inl, inr}
 use Rattle.std.specs.Prelude.{nat_lt, nat_le, slice_index, Option, Some, None, IsSome}
 use Rattle.std.proofs.lemmas.Bool.{leb-true, eqb-true, and_parts}
 use Rattle.std.proofs.lemmas.Bool.Decides.{nat_tests}
 use Rattle.rgctx_words.specs.Frames.{frames_at, frame_address, frame_index}
-use Rattle.rgctx_words.specs.Memory.{beyond}
-use Rattle.rgctx_words.proofs.MemoryLemmas.{memory, memory-take}
-use Rattle.crossings.specs.Calls.{word_at, Lies, argument_at, argument_word, AreListed}
+use Rattle.crossings.specs.Calls.{word_at, Lies, argument_at}
 use Rattle.crossings.specs.Copies.{index_at, index_or_first}
 
 -- ---- one address

@@ -1,6 +1,5 @@
 -- One frame at most begins at an address.
-use Rattle.std.proofs.Common.{◌≡◌, ◌≢◌, ℕ, suc, ◌+◌, ◌*◌, ◌<◌, ◌≤◌, length, inl, inr, arith, sym, ◌∙◌, ◌-◌}
-use Rattle.std.specs.Prelude.{nat_lt}
+use Rattle.std.proofs.Common.{◌≡◌, ℕ, suc, ◌+◌, ◌<◌, ◌≤◌, length, inl, inr, arith, sym, ◌∙◌}
 use Rattle.std.proofs.lemmas.Bool.Decides.{leb_tells}
 use Rattle.rgctx_words.specs.Frames.{frame_address, header_count}
 use Rattle.rgctx_words.specs.Stacks.{StackWords, base_of, IsStack}
@@ -10,15 +9,15 @@ use Rattle.rgctx_words.specs.Frames.{caller_word}
 pub same_level : (s : StackWords) → IsStack s → (l m : ℕ) → l < length s.bases → m < length s.bases → frame_address (base_of s l) ≡ frame_address (base_of s m) → l ≡ m
 same_level s shape l m l_in m_in same =
     elim (leb_tells (suc l) m) as (λ _. l ≡ m) [
-      inl lower ↦ (
-        let less : l < m = lower.1 in
-        let rises : base_of s l + header_count ≤ base_of s m = shape.rising l m less m_in in
-        absurd (omega arith))
-      | inr other ↦ elim (leb_tells (suc m) l) as (λ _. l ≡ m) [
-        inl higher ↦ (
-          let less : m < l = higher.1 in
-          let rises : base_of s m + header_count ≤ base_of s l = shape.rising m l less l_in in
+      | inl lower ↦ (
+          let less : l < m = lower.1 in
+          let rises : base_of s l + header_count ≤ base_of s m = shape.rising l m less m_in in
           absurd (omega arith))
+      | inr other ↦ elim (leb_tells (suc m) l) as (λ _. l ≡ m) [
+        | inl higher ↦ (
+            let less : m < l = higher.1 in
+            let rises : base_of s m + header_count ≤ base_of s l = shape.rising m l less l_in in
+            absurd (omega arith))
         | inr neither ↦ (let a : m < suc l = other.1 in let b : l < suc m = neither.1 in omega arith)
       ]
     ]

@@ -1,7 +1,7 @@
 -- A return in words of the stack: whose frame goes on, and where. This project's own.
 use Rattle.std.specs.Prelude.{◌≡◌, ℕ, ◌+◌, ◌-◌, ◌<◌, ◌==◌, if◌then◌else◌, length}
 use Rattle.rgctx_words.specs.Frames.{frame_address, caller_word, back_word}
-use Rattle.rgctx_words.specs.Stacks.{StackWords, mem_of, base_of, left_to}
+use Rattle.rgctx_words.specs.Stacks.{StackWords, mem_of, base_of}
 use Rattle.crossings.specs.declared.call.Left.{Left}
 use Rattle.crossings.specs.declared.call.Left.TheVariants.{Machine, Interp, Last}
 

@@ -38,6 +38,11 @@ pub(crate) fn copy_arguments(stack: &mut Stack, base: u32, list: u64, widths: &[
     for number in 0..count {
         let address = stack.word(first + number);
         let from = index_at(stack, address);
-        copy_words(stack, from, base + place_offset(number), widths[number as usize]);
+        copy_words(
+            stack,
+            from,
+            base + place_offset(number),
+            widths[number as usize],
+        );
     }
 }

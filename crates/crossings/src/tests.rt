@@ -4,7 +4,8 @@ ghost use Rattle.std.specs.Option.{option_copied};
 ghost use Rattle.crossings.specs.Calls.{IsBodyFrame};
 
 use crate::{
-    BodyRow, CallWords, Entered, Left, Stack, are_listed, are_widths, enter, has_caller, leave, lies,
+    BodyRow, CallWords, Entered, Left, Stack, are_listed, are_widths, enter, has_caller, leave,
+    lies,
 };
 use il_model::{Key, KeyPart};
 use sqlite_items::Items;
@@ -168,7 +169,10 @@ fn the_frame_past_the_last_is_too_deep(rt: HostRuntime) -> Result<(), Fail> {
         let entered = called(&mut stack, &MAIN, Some(&row), 0, 0, &[])?;
         assert_eq!(rt; entered, Entered::Machine(0x1_0014));
     }
-    assert_eq!(rt; called(&mut stack, &MAIN, Some(&row), 0, 0, &[])?, Entered::Deep);
+    assert_eq!(rt;
+        called(&mut stack, &MAIN, Some(&row), 0, 0, &[])?,
+        Entered::Deep
+    );
     assert_eq!(rt; [stack.depth(), stack.end()], [1_024, 8_192]);
     Ok(())
 }
@@ -179,7 +183,11 @@ fn words_lie_in_the_frames(rt: HostRuntime) -> Result<(), Fail> {
     for (list, widths, listed) in LISTS {
         assert_eq!(rt; are_listed(&stack, list, &widths), listed);
     }
-    for (address, count, answer) in [(0x4000_0248, 1, true), (0x4000_0248, 2, false), (9, 0, true)] {
+    for (address, count, answer) in [
+        (0x4000_0248, 1, true),
+        (0x4000_0248, 2, false),
+        (9, 0, true),
+    ] {
         assert_eq!(rt; lies(&stack, address, count), answer);
     }
     for (widths, places, answer) in [([16, 1], 2, true), ([17, 1], 2, false), ([1, 1], 1, false)] {

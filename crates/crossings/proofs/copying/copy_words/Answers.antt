@@ -1,4 +1,4 @@
-use Rattle.std.proofs.Common.{◌≡◌, ℕ, ◌+◌, ◌≤◌, length, ap, ◌∙◌, arith}
+use Rattle.std.proofs.Common.{◌≡◌, ℕ, ◌+◌, ◌≤◌, ap, ◌∙◌, arith}
 use Rattle.rgctx_words.specs.Stacks.{StackWords, mem_of}
 use Rattle.crossings.specs.Copies.{copied}
 use Rattle.crossings.proofs.CopyLemmas.{copied-step, length-with_word}
