@@ -188,15 +188,12 @@ fn plain(node: u16) -> u64
     (1_000 + u64::from(node)) * 0x1_0000_0000_0000
 }
 
-// All node words are in use, the last thirty by fills.
+// Fills take one node word after the other, until all are in use.
 #[test]
 fn all_nodes_are_used_and_then_there_is_no_place(rt: HostRuntime) -> Result<(), Fail> {
     let alloc = rt.alloc();
     let mut words = words(alloc)?;
-    for node in 24..4_066 {
-        let _ = claim(words.as_mut_slice(), u32::from(node), plain(node));
-    }
-    for node in 4_066..4_096 {
+    for node in 24..4_096 {
         let mut fill = Fill::begun(alloc, node, 0, alone(alloc, 1_000 + node)?, 0)?;
         let (_, gave) = run(&mut fill, words.as_mut_slice(), 10_000);
         assert_eq!(rt; gave, FillStep::Value(u64::from(node)));
