@@ -60,7 +60,10 @@ fn types_line(alloc: Global, levels: u32, rounds: u32) -> Result<String, AllocEr
 }
 
 fn fills_line(alloc: Global, nodes: u32, fills: u32) -> Result<String, AllocError> {
-    match fills::fills_of(alloc, nodes as u16, fills) {
+    let Ok(nodes) = u16::try_from(nodes) else {
+        return String::from_str(alloc, "too many nodes");
+    };
+    match fills::fills_of(alloc, nodes, fills) {
         Ok(filled) => format!(in alloc; "{} values in {} turns", filled.values, filled.turns),
         Err(NoMemory) => String::from_str(alloc, "no memory"),
     }
