@@ -1,0 +1,10 @@
+pub mod ChoosingTurns
+pub mod ChoosingPartLemmas
+pub mod ChoosingTypeLemmas
+pub mod ChoosingNameLemmas
+pub mod ChoosingKeyLemmas
+pub mod ChoosingBoundsLemmas
+pub mod ChoosingSizesLemmas
+pub mod ChoosingPickLemmas
+pub mod ChoosingJudgingLemmas
+pub mod ChoosingLineLemmas

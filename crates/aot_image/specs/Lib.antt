@@ -1,0 +1,12 @@
+pub mod ChoosingParts
+pub mod ChoosingMethods
+pub mod ChoosingNames
+pub mod ChoosingTypes
+pub mod ChoosingKeys
+pub mod ChoosingBounds
+pub mod ChoosingSizes
+pub mod ChoosingPicks
+pub mod ChoosingRounds
+pub mod ChoosingSame
+pub mod ChoosingLines
+pub mod Choosing
