@@ -1,8 +1,0 @@
-use Rattle.std.proofs.Common.{◌≡◌, [], take, map}
-use Rattle.aot_image.specs.ChoosingMethods.{short_text_of, full_texts_behind}
-use Rattle.aot_image.specs.ChoosingNames.{FindsPlaces, Counts}
-use Rattle.aot_image.proofs.ChoosingNameLemmas.{HasTexts}
-use Rattle.aot_image.proofs.choice_names.method_places.Given as goal
-
-abbrev pub invariant-loop-i : goal.invariant-loop-i
-invariant-loop-i l = HasTexts (λ k. k.items) l.program (take l.i l.methods) l.places l.counts
