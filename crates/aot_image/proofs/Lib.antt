@@ -1,0 +1,12 @@
+pub mod JudgingLemmas
+pub mod ReadingLemmas
+pub mod WritingLemmas
+pub mod TextLemmas
+pub mod StepLaws
+pub mod TreeLaws
+pub mod BodyLaws
+pub mod EntryLaws
+pub mod WholeLaws
+pub mod BodyComplete
+pub mod EntryComplete
+pub mod WholeComplete

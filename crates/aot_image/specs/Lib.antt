@@ -1,0 +1,5 @@
+pub mod ImageSpelling
+pub mod ImagePicks
+pub mod ImageJudging
+pub mod ImageReading
+pub mod ImageForm

@@ -1,0 +1,5 @@
+//! Tests of images, on whole files.
+#![tactic(auto)]
+
+#[cfg(test)]
+mod images;
