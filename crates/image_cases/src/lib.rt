@@ -1,5 +1,0 @@
-//! Tests of images, on whole files.
-#![tactic(auto)]
-
-#[cfg(test)]
-mod images;
