@@ -1,6 +1,5 @@
 // The closed entries of an image.
 ghost use Rattle.std.specs.Prelude.{◌≡◌, IfOk, OnOk, map, flat_map};
-ghost use Rattle.type_tree.specs.Substitution.{substituted};
 ghost use Rattle.il_model.specs.Entries.{closed_entry};
 ghost use Rattle.rgctx_template.specs.Collected.{collected};
 ghost use Rattle.il_model.specs.Found.{method_at};
@@ -9,63 +8,11 @@ ghost use Rattle.got_plt.specs.Closed.{closed_template, closed_of, closed_entrie
 use crate::exact::{count_of_owner, exact_types, is_exact_key, method_at, split};
 use il_model::{Def, Entry, Key, Program};
 use mn_outside::NoMemory;
-use rgctx_template::{Entries, add, template};
+use rgctx_template::{Entries, add, closed_entry, template};
 use share_canon::Choice;
 use sqlite_items::Items;
 use std::alloc::Global;
-use type_tree::{TExpr, Tree, subst_whole};
-
-fn closed_types(
-    alloc: Global,
-    kinds: &[TExpr],
-    class_args: &[Tree],
-    method_args: &[Tree],
-) -> Result<Items<Tree>, NoMemory>
-    ensures { IfOk result (λ trees. trees ≡ map (substituted class_args.now method_args.now) kinds.now) }
-{
-    let mut trees = Items::new(alloc);
-    for kind in kinds {
-        let Ok(()) = trees.push(subst_whole(alloc, kind, class_args, method_args)?) else {
-            return Err(NoMemory);
-        };
-    }
-    Ok(trees)
-}
-
-// An entry with the arguments put for the variables of its body.
-fn closed_entry(
-    alloc: Global,
-    entry: &Entry,
-    class_args: &[Tree],
-    method_args: &[Tree],
-) -> Result<Entry, NoMemory>
-    ensures { IfOk result (λ e. e ≡ closed_entry class_args.now method_args.now entry.now) }
-{
-    match entry {
-        Entry::Kind(kind) => {
-            let tree = subst_whole(alloc, kind, class_args, method_args)?;
-            Ok(Entry::Kind(tree))
-        }
-        Entry::Method(number, class, args) => {
-            let tree = subst_whole(alloc, class, class_args, method_args)?;
-            let trees = closed_types(alloc, args.as_slice(), class_args, method_args)?;
-            Ok(Entry::Method(*number, tree, trees))
-        }
-        Entry::Size(kind) => {
-            let tree = subst_whole(alloc, kind, class_args, method_args)?;
-            Ok(Entry::Size(tree))
-        }
-        Entry::Extent(kind) => {
-            let tree = subst_whole(alloc, kind, class_args, method_args)?;
-            Ok(Entry::Extent(tree))
-        }
-        Entry::Offset(class, place) => {
-            let tree = subst_whole(alloc, class, class_args, method_args)?;
-            Ok(Entry::Offset(tree, *place))
-        }
-        Entry::Slot(number) => Ok(Entry::Slot(*number)),
-    }
-}
+use type_tree::Tree;
 
 // Adds the entries, closed.
 fn add_closed(

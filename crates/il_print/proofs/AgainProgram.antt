@@ -1,9 +1,6 @@
 -- Whole programs of a canonical text: the text is accepted as the program that was printed.
-use Rattle.std.proofs.Common.{◌≡◌, ℕ, zero, suc, ◌+◌, ◌<◌, ◌≤◌, ◌^◌, false, List, [], ◌∷◌, ◌++◌, length, map, flat_map, drop, Option, Some, refl, sym, ap, ◌∙◌, subst, codes, append_assoc, append-nil, length-append, arith, bytes_eq, slice_get, unwrap_or}
 use Rattle.std.specs.List.{AllByRecursion, IsDistinct}
-use Rattle.std.proofs.lemmas.List.{map-append, length-map}
 use Rattle.std.proofs.Common.{◌≡◌, ℕ, zero, suc, ◌+◌, ◌<◌, ◌≤◌, ◌^◌, false, List, [], ◌∷◌, ◌++◌, length, map, flat_map, drop, Some, refl, sym, ap, ◌∙◌, subst, append_assoc, length-append, arith, bytes_eq, slice_get, unwrap_or}
-use Rattle.std.specs.List.{AllByRecursion, IsDistinct}
 use Rattle.std.proofs.lemmas.List.{length-map}
 use Rattle.std.proofs.lemmas.List.Elements.{recursion_from_All, All-from_recursion}
 use Rattle.std.proofs.Math.Seq.{drop-append_seam}
@@ -18,13 +15,9 @@ use Rattle.il_model.specs.declared.written.WrittenClass.{WrittenClass}
 use Rattle.il_model.specs.Lexemes.{Lexeme, lexemes_of, Many, none, more, is_among}
 use Rattle.il_model.specs.Words.{quoted_words}
 use Rattle.il_model.specs.Spellings.{plain_name}
-use Rattle.il_model.specs.Bounds.{written_positions, methods_of, all_methods, types_of_class, IsSmall, IsSmallMethod}
 use Rattle.il_model.specs.Classes.{IsClass, class, IsProgram}
 use Rattle.il_model.specs.Library.{library_classes, library_methods}
 use Rattle.il_model.specs.Names.{Each, end, both}
-use Rattle.il_model.specs.LookUp.{Known, NamesMethod, NamesClass, NamesClasses, no_classes, more_classes, Owned, owned_from, NamesOwned, texts_of_method, first_uses, EntriesFit, entries_from, known_of, NamesProgram}
-use Rattle.il_model.specs.Canonical.{Word, canonical_text}
-use Rattle.il_model.specs.Accepted.{IsWritten, IsProgramText, IsOfText}
 use Rattle.il_print.proofs.Keys.{key_of, class_keys, program_keys}
 use Rattle.il_print.proofs.PartReads.{follow_each}
 use Rattle.il_print.proofs.ProgramReads.{all_joined, own_names, all_names}
@@ -32,22 +25,14 @@ use Rattle.il_print.proofs.CanonicalTokens.{canonical_tokens}
 use Rattle.il_print.proofs.AgainKeys.{keys_none, keys_split}
 use Rattle.il_print.proofs.AgainScopes.{ArePlain}
 use Rattle.il_model.specs.Bounds.{written_positions, methods_of, all_methods, types_of_class, IsSmallMethod}
-use Rattle.il_model.specs.Classes.{IsClass, class, IsProgram}
-use Rattle.il_model.specs.Library.{library_classes, library_methods}
-use Rattle.il_model.specs.Names.{Each, end, both}
 use Rattle.il_model.specs.LookUp.{Known, NamesMethod, NamesClasses, no_classes, more_classes, Owned, owned_from, NamesOwned, texts_of_method, first_uses, EntriesFit, entries_from, known_of}
 use Rattle.il_model.specs.Canonical.{canonical_text}
 use Rattle.il_model.specs.Accepted.{IsProgramText, IsOfText}
-use Rattle.il_print.proofs.Keys.{key_of, class_keys, program_keys}
-use Rattle.il_print.proofs.ProgramReads.{all_joined, own_names, all_names}
-use Rattle.il_print.proofs.CanonicalTokens.{canonical_tokens}
-use Rattle.il_print.proofs.AgainKeys.{keys_none, keys_split}
 use Rattle.il_print.proofs.AgainMembers.{AreGenuine, genuine_front, genuine_back, all_apart}
 use Rattle.il_print.proofs.AgainBodies.{each_length}
 use Rattle.il_print.proofs.AgainMethods.{IsFairKnown}
 use Rattle.il_print.proofs.AgainClasses.{numbered, AreAt, StandsAt, class_again}
 use Rattle.il_print.proofs.AgainLimits.{AreLow, class_alike, flat_same, texts_in_method, method_texts}
-use Rattle.il_print.proofs.AgainEntries.{StandsOwned, owned_methods, counts_of, owned_counts, MayBeMainAt, Beside, HasMain, main_of, numbered_from, entries_again, all_fit, entries_owned, owned_entries}
 use Rattle.il_print.proofs.AgainEntries.{StandsOwned, owned_methods, owned_counts, MayBeMainAt, Beside, main_of, numbered_from, entries_again, all_fit, entries_owned, owned_entries}
 use Rattle.il_print.proofs.AgainGenuine.{genuine_text}
 

@@ -1,7 +1,6 @@
 // What an entry of a template names, once the arguments of its node are put: the nodes that the value needs, and what
 // is added to the number of the last.
-ghost use Rattle.std.specs.Prelude.{◌≡◌, ◌++◌, ◌∷◌, [], ℕ, ◌<◌, ◌^◌, IfOk, OnOk, Some, map, length};
-ghost use Rattle.type_tree.specs.Substitution.{substituted};
+ghost use Rattle.std.specs.Prelude.{◌≡◌, ℕ, ◌<◌, ◌^◌, IfOk, Some, length};
 ghost use Rattle.il_model.specs.declared.entry.Entry.TheVariants as entry;
 ghost use Rattle.il_model.specs.ClassRules.{HasTypes};
 ghost use Rattle.rgctx_template.specs.Catalogue.{data_of};
@@ -16,11 +15,10 @@ use crate::stage::NodeStep;
 use crate::values::{entry_word, extent_value, offset_value, size_value};
 use il_model::{Entry, Limit, MethodTree};
 use mn_outside::NoMemory;
-use rgctx_template::Catalogue;
-use sqlite_items::Items;
+use rgctx_template::{Catalogue, closed_entry};
 use std::alloc::Global;
 use type_inst::{arguments_of, slots};
-use type_tree::{Tree, copy_all, subst_whole};
+use type_tree::{Tree, copy_all};
 
 /// What is planned for an entry: the nodes that its value needs, with what is added to the number of the last, or the
 /// limit that what it names passes.
@@ -59,21 +57,10 @@ pub(crate) fn plan_of(
 }
 
 // An entry with the arguments of what a node spells put for its variables.
-pub(crate) fn closed_entry(alloc: Global, tree: &NodeTree, named: &Entry) -> Result<Entry, NoMemory>
+pub(crate) fn entry_at(alloc: Global, tree: &NodeTree, named: &Entry) -> Result<Entry, NoMemory>
     ensures { IfOk result (λ e. e ≡ entry_at tree.now named.now) }
 {
-    match named {
-        Entry::Kind(kind) => Ok(Entry::Kind(closed(alloc, tree, kind)?)),
-        Entry::Method(number, class, args) => {
-            let own = closed(alloc, tree, class)?;
-            let all = closed_all(alloc, tree, args.as_slice())?;
-            Ok(Entry::Method(*number, own, all))
-        }
-        Entry::Size(kind) => Ok(Entry::Size(closed(alloc, tree, kind)?)),
-        Entry::Extent(kind) => Ok(Entry::Extent(closed(alloc, tree, kind)?)),
-        Entry::Offset(class, place) => Ok(Entry::Offset(closed(alloc, tree, class)?, *place)),
-        Entry::Slot(number) => Ok(Entry::Slot(*number)),
-    }
+    closed_entry(alloc, named, class_arguments(tree), method_arguments(tree))
 }
 
 // The types that stand for the variables of the class, in the template of what a node spells.
@@ -95,29 +82,6 @@ fn method_arguments(tree: &NodeTree) -> &[Tree]
         NodeTree::Method(method) => method.args.as_slice(),
         NodeTree::Kind(_) | NodeTree::Other | NodeTree::Zero(_) => &[],
     }
-}
-
-fn closed(alloc: Global, tree: &NodeTree, kind: &Tree) -> Result<Tree, NoMemory>
-    ensures { IfOk result (λ closed. closed ≡ substituted (class_arguments tree.now) (method_arguments tree.now) kind.now) }
-{
-    subst_whole(alloc, kind, class_arguments(tree), method_arguments(tree))
-}
-
-fn closed_all(alloc: Global, tree: &NodeTree, kinds: &[Tree]) -> Result<Items<Tree>, NoMemory>
-    ensures { IfOk result (λ all. all ≡ map (substituted (class_arguments tree.now) (method_arguments tree.now)) kinds.now) }
-{
-    let mut all = Items::new(alloc);
-    for kind in kinds {
-        let own = closed(alloc, tree, kind)?;
-        put(&mut all, own)?;
-    }
-    Ok(all)
-}
-
-fn put(kinds: &mut Items<Tree>, kind: Tree) -> Result<(), NoMemory>
-    ensures { OnOk result (kinds.new ≡ kinds.old ++ kind ∷ []) }
-{
-    kinds.push(kind).map_err(|_| NoMemory)
 }
 
 // The value of a type is its node.

@@ -9,7 +9,7 @@ ghost use Rattle.rgctx_fill.specs.Claims.{IsSure, Shows};
 ghost use Rattle.rgctx_fill.specs.Starting.{IsFillable, Starts};
 
 use crate::fill::Fill;
-use crate::naming::{Planned, closed_entry, plan_of};
+use crate::naming::{Planned, entry_at, plan_of};
 use crate::reading::node_tree;
 use crate::rule::Fits;
 use crate::templating::tree_template;
@@ -56,7 +56,7 @@ impl Fill {
         let entries = tree_template(alloc, cat, &tree)?;
         match entries.as_slice().get(entry as usize) {
             Some(named) => {
-                let own = closed_entry(alloc, &tree, named)?;
+                let own = entry_at(alloc, &tree, named)?;
                 match plan_of(alloc, cat, &tree, &own)? {
                     Planned::Plan(steps, base) => {
                         let fill = Fill::begun(alloc, node, entry, steps, base)?;

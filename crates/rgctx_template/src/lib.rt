@@ -2,6 +2,7 @@
 #![tactic(auto)]
 
 mod catalogue;
+mod closing;
 mod collecting;
 mod found;
 mod hashing;
@@ -13,6 +14,7 @@ mod templating;
 mod tests;
 
 pub use catalogue::Catalogue;
+pub use closing::closed_entry;
 pub use collecting::{Entries, add};
 pub use hashing::feed_tree;
 pub use il_model::{Def, Entry};

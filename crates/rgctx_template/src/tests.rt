@@ -1,5 +1,5 @@
 // A class and a method with their entries.
-use crate::template;
+use crate::{closed_entry, template};
 use il_model::{
     Body, ClassDef, ClassKind, Clause, Def, Entry, MethodDef, Op, Program, Shape, Sort,
 };
@@ -102,5 +102,21 @@ fn entries_stand_once_and_in_order(rt: HostRuntime) -> Result<(), Fail> {
     );
     let none = template(alloc, &program, Def::Method(7))?;
     assert_eq!(rt; none.len(), 0);
+    Ok(())
+}
+
+#[test]
+fn a_closed_entry_keeps_its_form_and_place(rt: HostRuntime) -> Result<(), Fail> {
+    let alloc = rt.alloc();
+    let class = [TExpr::plain(alloc, Head::Int32)];
+    let method = [TExpr::plain(alloc, Head::Int64)];
+    let written = Entry::Offset(TExpr::class_var(0), 3);
+    match closed_entry(alloc, &written, class.as_slice(), method.as_slice())? {
+        Entry::Offset(kind, place) => {
+            assert!(rt; kind.same(&class[0]));
+            assert_eq!(rt; place, 3);
+        }
+        _ => assert!(rt; false),
+    }
     Ok(())
 }
