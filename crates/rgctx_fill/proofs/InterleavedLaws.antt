@@ -1,17 +1,15 @@
 -- Fills that take their turns on the same words in any order stay under way, and those of one entry answer one value.
-use Rattle.std.proofs.Common.{◌≡◌, ◌≢◌, ◌⊎◌, ⊎_elim, ℕ, zero, suc, ◌+◌, ◌<◌, ◌==◌, Bool, true, false, List, [], ◌∷◌, length, Option, Some, None, if◌then◌else◌, refl, sym, ap, ◌∙◌, subst, arith, eq-eqb, eqb-true}
+use Rattle.std.proofs.Common.{◌≡◌, ◌≢◌, ⊎_elim, ℕ, zero, suc, ◌==◌, Bool, true, false, List, [], ◌∷◌, Option, Some, None, if◌then◌else◌, refl, sym, ap, ◌∙◌, subst, eq-eqb, eqb-true}
 use Rattle.std.specs.Prelude.{slice_get, slice_set}
 use Rattle.std.proofs.lemmas.Bool.{cases_eq}
 use Rattle.rgctx_words.specs.Held.{Grows}
 use Rattle.rgctx_template.specs.Catalogue.{CatData}
-use Rattle.rgctx_fill.specs.declared.stage.Stage.{Stage}
 use Rattle.rgctx_fill.specs.declared.stage.Stage.TheVariants as stage
 use Rattle.rgctx_fill.specs.declared.stage.FillNext.{FillNext}
 use Rattle.rgctx_fill.specs.declared.stage.FillNext.TheVariants as next
 use Rattle.rgctx_fill.specs.declared.stage.FillStep.{FillStep}
 use Rattle.rgctx_fill.specs.declared.stage.FillStep.TheVariants as step
 use Rattle.rgctx_fill.specs.Fitting.{AreFitting}
-use Rattle.rgctx_fill.specs.NamedValues.{IsNamed}
 use Rattle.rgctx_fill.specs.GrowthLaws.{named-grows}
 use Rattle.rgctx_fill.specs.LeafLaws.{leaf-used}
 use Rattle.rgctx_fill.specs.ClaimLaws.{claim-keeps, claim-grows}
@@ -19,7 +17,7 @@ use Rattle.rgctx_fill.specs.Turns.{FillData, next_of, taken}
 use Rattle.rgctx_fill.specs.Ready.{IsFilled, IsReady, Knows, IsClaimed, IsAnswered, IsMade, IsTurn}
 use Rattle.rgctx_fill.specs.Interleaved.{Shared, with_word, words_after, fill_after, turned_if, turned, interleaved, IsTurned, AreUnderWay}
 use Rattle.rgctx_fill.proofs.NodeLaws.{named-only}
-use Rattle.rgctx_fill.proofs.TurnLemmas.{MayPut, may-put, Loaded, Claimed, ready-loaded, ready-claimed, ready-grows, differ}
+use Rattle.rgctx_fill.proofs.TurnLemmas.{MayPut, may-put, ready-loaded, ready-claimed, ready-grows, differ}
 
 -- ---- one value
 

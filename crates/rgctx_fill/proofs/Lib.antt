@@ -14,3 +14,15 @@ pub mod StepLemmas
 pub mod StartLemmas
 pub mod InterleavedLaws
 pub mod LoopLemmas
+pub mod WholeLists
+pub mod WholeTypes
+pub mod WholeScopes
+pub mod WholeSlots
+pub mod WholeMentions
+pub mod WholeShapes
+pub mod WholeNames
+pub mod WholeLibrary
+pub mod WholeText
+pub mod WholeOffsets
+pub mod WholeEntries
+pub mod WholeImage

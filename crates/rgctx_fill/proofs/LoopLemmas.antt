@@ -1,14 +1,11 @@
 -- What the loops of planning and of limits give, one item more at a time.
-use Rattle.std.proofs.Common.{◌≡◌, ℕ, zero, suc, ◌+◌, ◌<◌, ◌≤◌, Bool, true, false, List, [], ◌∷◌, ◌++◌, length, map, flat_map, sum_by, take, get_or, Option, Some, None, if◌then◌else◌, refl, sym, ap, ◌∙◌, subst, arith}
+use Rattle.std.proofs.Common.{◌≡◌, ℕ, zero, suc, ◌+◌, ◌<◌, ◌≤◌, false, List, [], ◌∷◌, ◌++◌, length, map, flat_map, take, get_or, Option, Some, None, if◌then◌else◌, refl, sym, ap, ◌∙◌, arith}
 use Rattle.std.specs.Prelude.{nat_lt, slice_get, option_to_list}
-use Rattle.std.proofs.lemmas.Bool.Decides.{nat_tests}
 use Rattle.std.proofs.lemmas.List.{append-nil, append_assoc, length-append, map-append, take_more}
 use Rattle.type_tree.specs.declared.tree.TExpr.{TExpr}
 use Rattle.type_tree.specs.declared.tree.Head.{Head}
-use Rattle.type_tree.specs.declared.tree.TNode.{TNode}
-use Rattle.type_tree.specs.declared.tree.TNode.TheVariants.{Node, ClassVar, MethodVar}
-use Rattle.type_tree.specs.Tree.{top_of, tree_of, node}
-use Rattle.type_tree.specs.Positions.{positions_of}
+use Rattle.type_tree.specs.declared.tree.TNode.TheVariants.{Node}
+use Rattle.type_tree.specs.Tree.{top_of}
 use Rattle.type_tree.proofs.TreeLemmas.{tree_of-is, folded-node}
 use Rattle.il_model.specs.declared.layout.Limit.{Limit}
 use Rattle.il_model.specs.declared.layout.Limit.TheVariants as limit
@@ -18,7 +15,7 @@ use Rattle.il_model.specs.declared.method.PType.{PType}
 use Rattle.il_model.specs.declared.program.Program.{Program}
 use Rattle.il_model.specs.Found.{method_at}
 use Rattle.il_model.specs.Admission.{most_positions, limit_of}
-use Rattle.il_model.specs.Methods.{worse, worst, type_of_place, types_of_places, types_of_method, types_named_by, method_positions, limit_of_method}
+use Rattle.il_model.specs.Methods.{worse, worst, type_of_place, types_of_places, types_of_method, method_positions, limit_of_method}
 use Rattle.rgctx_fill.specs.declared.stage.NodeStep.{NodeStep}
 use Rattle.rgctx_fill.specs.Limits.{seen_at}
 use Rattle.rgctx_fill.specs.Steps.{head_number, step_with, level_steps, type_steps, types_steps, types_places}

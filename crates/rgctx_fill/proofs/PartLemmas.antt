@@ -1,7 +1,7 @@
 -- The arguments of a type that may have a node may have nodes themselves.
-use Rattle.std.proofs.Common.{◌≡◌, ℕ, zero, suc, ◌+◌, ◌<◌, ◌≤◌, Bool, true, false, ◌&&◌, ◌||◌, List, [], ◌∷◌, ◌++◌, length, flat_map, sum_by, Option, Some, None, if◌then◌else◌, refl, sym, ap, ◌∙◌, subst, arith}
+use Rattle.std.proofs.Common.{◌≡◌, ℕ, zero, suc, ◌+◌, ◌≤◌, Bool, true, false, ◌&&◌, ◌||◌, List, [], ◌∷◌, ◌++◌, flat_map, sum_by, Option, Some, None, if◌then◌else◌, refl, sym, ap, ◌∙◌, subst, arith}
 use Rattle.std.specs.Prelude.{is_none}
-use Rattle.std.specs.List.{list_all, list_any, AllByRecursion, All}
+use Rattle.std.specs.List.{list_all, list_any, AllByRecursion}
 use Rattle.std.proofs.lemmas.List.Sums.{sum_by-cons}
 use Rattle.std.proofs.lemmas.List.Elements.{recursion_from_All}
 use Rattle.type_tree.specs.declared.tree.Head.{Head}
@@ -18,7 +18,7 @@ use Rattle.il_model.specs.declared.layout.Limit.TheVariants as limit
 use Rattle.il_model.specs.declared.program.Program.{Program}
 use Rattle.il_model.specs.Trees.{trees_within, trees_in}
 use Rattle.il_model.specs.Entries.{arguments_at}
-use Rattle.il_model.specs.Admission.{has_count, closure_of, limited_trees_of, is_large, is_wide, limit_among, limit_of}
+use Rattle.il_model.specs.Admission.{has_count, closure_of, limited_trees_of, is_large, is_wide, limit_of}
 use Rattle.il_model.specs.ClassRules.{has_counts}
 use Rattle.rgctx_template.specs.Admitted.{is_admitted}
 use Rattle.rgctx_fill.specs.Nodes.{IsAdmittedType}

@@ -1,20 +1,17 @@
 -- What is planned for each kind of entry, and that a fill with such a plan is ready.
-use Rattle.std.proofs.Common.{◌≡◌, ◌≢◌, ℕ, zero, suc, ◌+◌, ◌*◌, ◌^◌, ◌<◌, ◌≤◌, Bool, true, false, List, [], ◌∷◌, ◌++◌, length, map, Option, Some, None, if◌then◌else◌, refl, sym, ap, ◌∙◌, subst, arith}
-use Rattle.std.specs.Prelude.{slice_get, slice_index, nat_lt, is_none, flat_map, option_map, option_to_list}
-use Rattle.std.specs.List.{All, AllByRecursion}
+use Rattle.std.proofs.Common.{◌≡◌, ◌≢◌, ℕ, suc, ◌+◌, ◌*◌, ◌^◌, ◌<◌, ◌≤◌, Bool, true, false, List, [], ◌∷◌, ◌++◌, length, map, Option, Some, None, if◌then◌else◌, refl, sym, ap, ◌∙◌, subst, arith}
+use Rattle.std.specs.Prelude.{slice_get, nat_lt, is_none, option_map}
+use Rattle.std.specs.List.{AllByRecursion}
 use Rattle.std.proofs.lemmas.Bool.Decides.{nat_tests}
 use Rattle.std.proofs.lemmas.List.Elements.{All-from_recursion, recursion_from_All}
 use Rattle.std.proofs.lemmas.Option.{slice_get_within}
 use Rattle.type_tree.specs.declared.tree.TExpr.{TExpr}
-use Rattle.type_tree.specs.Tree.{IsClosed}
 use Rattle.il_model.specs.declared.entry.Entry.{Entry}
 use Rattle.il_model.specs.declared.entry.Entry.TheVariants as entry
 use Rattle.il_model.specs.declared.layout.Limit.{Limit}
 use Rattle.il_model.specs.declared.layout.Limit.TheVariants as limit
 use Rattle.il_model.specs.declared.layout.MethodTree.{MethodTree}
-use Rattle.il_model.specs.declared.method.MethodDef.{MethodDef}
 use Rattle.il_model.specs.declared.program.Program.{Program}
-use Rattle.il_model.specs.Found.{method_at}
 use Rattle.il_model.specs.Admission.{most_positions, limit_of}
 use Rattle.il_model.specs.Methods.{worse, worst, types_named_by, method_positions, limit_at, limit_of_method}
 use Rattle.rgctx_words.specs.Regions.{node_count}
@@ -24,24 +21,22 @@ use Rattle.rgctx_template.specs.Catalogue.{CatData}
 use Rattle.rgctx_fill.specs.declared.spelled.NodeTree.{NodeTree}
 use Rattle.rgctx_fill.specs.declared.spelled.NodeTree.TheVariants as tree
 use Rattle.rgctx_fill.specs.declared.stage.NodeStep.{NodeStep}
-use Rattle.rgctx_fill.specs.declared.stage.Stage.{Stage}
 use Rattle.rgctx_fill.specs.declared.stage.Stage.TheVariants as stage
 use Rattle.rgctx_fill.specs.Spelled.{spelled_below, spelled, type_in, naming_of}
 use Rattle.rgctx_fill.specs.Nodes.{IsAdmittedType, IsAdmittedMethod, MayStand}
 use Rattle.rgctx_fill.specs.Templates.{template_at, tree_template}
-use Rattle.rgctx_fill.specs.NamedValues.{IsEntryWord, IsMethodValue, IsSlotValue, IsValue, IsNamed, entry_at, method_in_slot, size_value, extent_value, offset_of, offset_value}
+use Rattle.rgctx_fill.specs.NamedValues.{IsEntryWord, IsMethodValue, IsSlotValue, IsValue, entry_at, method_in_slot, offset_of, offset_value}
 use Rattle.rgctx_fill.specs.Fitting.{AreFitting}
 use Rattle.rgctx_fill.specs.Claims.{ArePassed, IsSure, Shows}
 use Rattle.rgctx_fill.specs.Reading.{IsNodeTree}
 use Rattle.rgctx_fill.specs.SpelledLaws.{is_zero, no_zero_word, spelled-grows}
-use Rattle.rgctx_fill.specs.GrowthLaws.{listed-used, stands-used}
-use Rattle.rgctx_fill.specs.Turns.{FillData, IsAt, node_for, node_key, first_stage, begun}
+use Rattle.rgctx_fill.specs.Turns.{IsAt, node_for, node_key, begun}
 use Rattle.rgctx_fill.specs.Plans.{Spells, AreSpelled, IsPlan}
 use Rattle.rgctx_fill.specs.Ready.{Knows, IsReady}
 use Rattle.rgctx_fill.specs.Steps.{type_steps, method_steps}
-use Rattle.rgctx_fill.specs.Starting.{IsWholeType, IsWholeMethod, IsWhole, IsNameable, IsFillable, limit_named, steps_of_slot, limit_of_slot, steps_named, IsPlanOf, IsEntryOf, IsBegun, IsRefused}
+use Rattle.rgctx_fill.specs.Starting.{IsWholeType, IsWholeMethod, IsWhole, IsNameable, IsFillable, limit_named, steps_of_slot, steps_named, IsPlanOf, IsEntryOf, IsBegun, IsRefused}
 use Rattle.rgctx_fill.proofs.PartLemmas.{admitted-limit}
-use Rattle.rgctx_fill.proofs.StepLemmas.{Ends, type-plan, method-plan, no-plan}
+use Rattle.rgctx_fill.proofs.StepLemmas.{Ends, type-plan, method-plan}
 
 -- ---- limits
 

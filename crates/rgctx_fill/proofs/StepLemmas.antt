@@ -1,5 +1,5 @@
 -- The steps of an admitted type or method are those of trees that may have nodes, the last of which is its own.
-use Rattle.std.proofs.Common.{◌≡◌, ◌≢◌, ⊎_elim, ℕ, zero, suc, ◌+◌, ◌-◌, ◌<◌, ◌≤◌, ◌==◌, Bool, true, false, List, [], ◌∷◌, ◌++◌, length, map, Option, Some, None, Result, Ok, Err, if◌then◌else◌, refl, sym, ap, ◌∙◌, subst, arith, eqb-true}
+use Rattle.std.proofs.Common.{◌≡◌, ⊎_elim, ℕ, zero, suc, ◌+◌, ◌-◌, ◌<◌, ◌≤◌, ◌==◌, Bool, true, false, List, [], ◌∷◌, ◌++◌, length, Option, Some, None, if◌then◌else◌, refl, sym, ap, ◌∙◌, subst, arith, eqb-true}
 use Rattle.std.specs.Prelude.{slice_get, slice_index, nat_lt}
 use Rattle.std.specs.List.{AllByRecursion}
 use Rattle.std.proofs.lemmas.Bool.{cases_lt}
@@ -10,15 +10,14 @@ use Rattle.std.proofs.lemmas.Option.{slice_get_within}
 use Rattle.type_tree.specs.declared.tree.Head.{Head}
 use Rattle.type_tree.specs.declared.tree.Head.TheVariants as head
 use Rattle.type_tree.specs.declared.tree.TExpr.{TExpr}
-use Rattle.type_tree.specs.declared.tree.TNode.{TNode}
-use Rattle.type_tree.specs.declared.tree.TNode.TheVariants.{Node, ClassVar, MethodVar}
-use Rattle.type_tree.specs.Tree.{top_of, node, class_var, method_var, IsClosed}
+use Rattle.type_tree.specs.declared.tree.TNode.TheVariants.{Node}
+use Rattle.type_tree.specs.Tree.{node, class_var, method_var}
 use Rattle.type_tree.proofs.TreeLemmas.{top_of-tree_of, folded-node, holds_of_trees}
 use Rattle.type_tree.proofs.VariablesLemmas.{below_class_var, below_method_var}
 use Rattle.il_model.specs.declared.class.ClassDef.{ClassDef}
 use Rattle.il_model.specs.declared.layout.MethodTree.{MethodTree}
 use Rattle.il_model.specs.declared.program.Program.{Program}
-use Rattle.il_model.specs.Admission.{has_count, has_count_in, has_count_top}
+use Rattle.il_model.specs.Admission.{has_count_in, has_count_top}
 use Rattle.rgctx_words.specs.declared.node_word.Definition.{Definition}
 use Rattle.rgctx_words.specs.declared.node_word.Definition.TheVariants as def
 use Rattle.rgctx_words.specs.Regions.{node_count}
@@ -30,9 +29,9 @@ use Rattle.rgctx_fill.specs.Spelled.{applied, spelled_by}
 use Rattle.rgctx_fill.specs.Nodes.{IsAdmittedType, IsAdmittedMethod, MayStand}
 use Rattle.rgctx_fill.specs.Turns.{node_for, word_for}
 use Rattle.rgctx_fill.specs.Plans.{Spells, AreSpelled, IsStep, IsPlan}
-use Rattle.rgctx_fill.specs.Steps.{head_number, method_number, step_with, all_steps, level_steps, type_steps, types_steps, types_places, method_steps, most_named_classes}
+use Rattle.rgctx_fill.specs.Steps.{head_number, method_number, step_with, level_steps, type_steps, types_steps, types_places, method_steps, most_named_classes}
 use Rattle.rgctx_fill.specs.Starting.{IsNameable}
-use Rattle.rgctx_fill.proofs.PlanLemmas.{Got, got, read-word}
+use Rattle.rgctx_fill.proofs.PlanLemmas.{read-word}
 use Rattle.rgctx_fill.proofs.PartLemmas.{counts-node, parts-admitted}
 
 -- ---- lists

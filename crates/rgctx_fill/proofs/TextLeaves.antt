@@ -17,25 +17,25 @@ use Rattle.rgctx_fill.specs.Predefined.{HasLeaves}
 
 -- ---- items of lists
 
-no_item : {A P : Type 0} (k : ℕ) (x : A) → slice_get [] k ≡ Some x → P
+pub no_item : {A P : Type 0} (k : ℕ) (x : A) → slice_get [] k ≡ Some x → P
 no_item k x e = cc
 
-got_left : {A : Type 0} (xs ys : List A) (k : ℕ) (x : A) → slice_get xs k ≡ Some x → slice_get (xs ++ ys) k ≡ Some x
+pub got_left : {A : Type 0} (xs ys : List A) (k : ℕ) (x : A) → slice_get xs k ≡ Some x → slice_get (xs ++ ys) k ≡ Some x
 got_left [] ys k x e = no_item k x e
 got_left (z ∷ xs) ys zero x e = e
 got_left (z ∷ xs) ys (suc k) x e = got_left xs ys k x e
 
-got_right : {A : Type 0} (xs ys : List A) (k : ℕ) → slice_get (xs ++ ys) (length xs + k) ≡ slice_get ys k
+pub got_right : {A : Type 0} (xs ys : List A) (k : ℕ) → slice_get (xs ++ ys) (length xs + k) ≡ slice_get ys k
 got_right [] ys k = ap (slice_get ys) (let e : 0 + k ≡ k = omega arith in e)
 got_right (z ∷ xs) ys k = ap (slice_get (z ∷ (xs ++ ys))) (let e : length (z ∷ xs) + k ≡ suc (length xs + k) = omega arith in e) ∙ got_right xs ys k
 
 -- an item of two lists is one of the first or of the second
-record IsLater {A : Type 0} (xs ys : List A) (k : ℕ) (x : A) : Type 0 where
-  place : ℕ
-  is : k ≡ length xs + place
-  item : slice_get ys place ≡ Some x
+pub record IsLater {A : Type 0} (xs ys : List A) (k : ℕ) (x : A) : Type 0 where
+  pub place : ℕ
+  pub is : k ≡ length xs + place
+  pub item : slice_get ys place ≡ Some x
 
-got_of_two : {A : Type 0} (xs ys : List A) (k : ℕ) (x : A) → slice_get (xs ++ ys) k ≡ Some x → (slice_get xs k ≡ Some x) ⊎ IsLater xs ys k x
+pub got_of_two : {A : Type 0} (xs ys : List A) (k : ℕ) (x : A) → slice_get (xs ++ ys) k ≡ Some x → (slice_get xs k ≡ Some x) ⊎ IsLater xs ys k x
 got_of_two [] ys k x e = inr (record { place = k; is = omega arith; item = e })
 got_of_two (z ∷ xs) ys zero x e = inl e
 got_of_two (z ∷ xs) ys (suc k) x e = ⊎_elim
@@ -43,24 +43,24 @@ got_of_two (z ∷ xs) ys (suc k) x e = ⊎_elim
     (λ (h : IsLater xs ys k x). inr (record { place = h.place; is = (let i : k ≡ length xs + h.place = h.is in omega arith); item = h.item }))
     (got_of_two xs ys k x e)
 
-among : {A : Type 0} (xs : List A) (k : ℕ) (x : A) → slice_get xs k ≡ Some x → Contains xs x
+pub among : {A : Type 0} (xs : List A) (k : ℕ) (x : A) → slice_get xs k ≡ Some x → Contains xs x
 among xs k x e = (k, slice_get_within xs k x e, get_or_from_slice_get xs k x x e)
 
-record EachAt {A B : Type 0} (R : A → B → Type 0) (ys : List B) (k : ℕ) (x : A) : Type 0 where
-  item : B
-  is : slice_get ys k ≡ Some item
-  related : R x item
+pub record EachAt {A B : Type 0} (R : A → B → Type 0) (ys : List B) (k : ℕ) (x : A) : Type 0 where
+  pub item : B
+  pub is : slice_get ys k ≡ Some item
+  pub related : R x item
 
-each_at : {A B : Type 0} (R : A → B → Type 0) (xs : List A) (ys : List B) → Each R xs ys → (k : ℕ) (x : A) → slice_get xs k ≡ Some x → EachAt R ys k x
+pub each_at : {A B : Type 0} (R : A → B → Type 0) (xs : List A) (ys : List B) → Each R xs ys → (k : ℕ) (x : A) → slice_get xs k ≡ Some x → EachAt R ys k x
 each_at R xs ys end k x e = no_item k x e
 each_at R xs ys (both a b us vs is are) zero x e = record { item = b; is = refl; related = subst (λ z. R z b) (let p : a ≡ x = cc in p) is }
 each_at R xs ys (both a b us vs is are) (suc k) x e = let h = each_at R us vs are k x e in record { item = h.item; is = h.is; related = h.related }
 
-each_length : {A B : Type 0} (R : A → B → Type 0) (xs : List A) (ys : List B) → Each R xs ys → length xs ≡ length ys
+pub each_length : {A B : Type 0} (R : A → B → Type 0) (xs : List A) (ys : List B) → Each R xs ys → length xs ≡ length ys
 each_length R xs ys end = refl
 each_length R xs ys (both x y us vs is are) = ap suc (each_length R us vs are)
 
-each_none : {A B : Type 0} (R : A → B → Type 0) (xs : List A) (ys : List B) → Each R xs ys → xs ≡ [] → ys ≡ []
+pub each_none : {A B : Type 0} (R : A → B → Type 0) (xs : List A) (ys : List B) → Each R xs ys → xs ≡ [] → ys ≡ []
 each_none R xs ys end e = refl
 each_none R xs ys (both x y us vs is are) e = cc
 
@@ -101,7 +101,7 @@ entry_of number (m ∷ ms) n rest e = entry_step number m ms n rest (has_entry m
 
 -- ---- its class
 
-abbrev owned_by : ℕ → WrittenClass → WrittenMethod → Owned
+abbrev pub owned_by : ℕ → WrittenClass → WrittenMethod → Owned
 owned_by owner c m = record { owner = owner; of_class = length c.vars; written = m }
 
 record HasOwner (owner : ℕ) (cs : List WrittenClass) (k : ℕ) (m : WrittenMethod) : Type 0 where
@@ -111,7 +111,7 @@ record HasOwner (owner : ℕ) (cs : List WrittenClass) (k : ℕ) (m : WrittenMet
   method : Contains (methods_of class.members) m
   owned : slice_get (owned_from owner cs) k ≡ Some (owned_by (owner + place) class m)
 
-length_map : {A B : Type 0} (f : A → B) (xs : List A) → length (map f xs) ≡ length xs
+pub length_map : {A B : Type 0} (f : A → B) (xs : List A) → length (map f xs) ≡ length xs
 length_map f [] = refl
 length_map f (x ∷ xs) = ap suc (length_map f xs)
 
@@ -151,13 +151,13 @@ owned_length owner (c ∷ cs) =
     ∙ ap (λ n. length (methods_of c.members) + n) (owned_length (owner + 1) cs)
     ∙ sym (length-append (methods_of c.members) (all_methods cs))
 
-record HasClass (known : Known) (ds : List ClassDef) (k : ℕ) (c : WrittenClass) : Type 0 where
-  class : ClassDef
-  item : slice_get ds k ≡ Some class
-  first : ℕ
-  named : NamesClass known first c class
+pub record HasClass (known : Known) (ds : List ClassDef) (k : ℕ) (c : WrittenClass) : Type 0 where
+  pub class : ClassDef
+  pub item : slice_get ds k ≡ Some class
+  pub first : ℕ
+  pub named : NamesClass known first c class
 
-class_of : (known : Known) (first : ℕ) (cs : List WrittenClass) (ds : List ClassDef) → NamesClasses known first cs ds → (k : ℕ) (c : WrittenClass) → slice_get cs k ≡ Some c → HasClass known ds k c
+pub class_of : (known : Known) (first : ℕ) (cs : List WrittenClass) (ds : List ClassDef) → NamesClasses known first cs ds → (k : ℕ) (c : WrittenClass) → slice_get cs k ≡ Some c → HasClass known ds k c
 class_of known first cs ds (no_classes f) k c e = no_item k c e
 class_of known first cs ds (more_classes f w d ws us is are) zero c e = record { class = d; item = refl; first = f; named = subst (λ x. NamesClass known f x d) (let p : w ≡ c = cc in p) is }
 class_of known first cs ds (more_classes f w d ws us is are) (suc k) c e = let h = class_of known (f + length (methods_of w.members)) ws us are k c e in record { class = h.class; item = h.item; first = h.first; named = h.named }

@@ -1,6 +1,6 @@
 -- What a turn of a fill may claim, and that the fill is ready again behind it.
-use Rattle.std.proofs.Common.{◌≡◌, ◌≢◌, ◌⊎◌, ⊎_elim, inl, inr, ℕ, zero, suc, ◌+◌, ◌-◌, ◌*◌, ◌/◌, ◌%◌, ◌<◌, ◌≤◌, ◌==◌, Bool, true, false, ◌||◌, List, [], ◌∷◌, ◌++◌, length, Option, Some, None, if◌then◌else◌, refl, sym, ap, ◌∙◌, subst, arith, eq-eqb, eqb-true}
-use Rattle.std.specs.Prelude.{slice_get, slice_index, nat_lt, nat_le, ◌&&◌}
+use Rattle.std.proofs.Common.{◌≡◌, ◌≢◌, ◌⊎◌, ⊎_elim, inl, inr, ℕ, zero, suc, ◌+◌, ◌-◌, ◌*◌, ◌/◌, ◌%◌, ◌<◌, ◌≤◌, ◌==◌, Bool, true, false, ◌||◌, List, [], ◌∷◌, ◌++◌, length, Option, Some, if◌then◌else◌, refl, sym, ap, ◌∙◌, subst, arith, eq-eqb, eqb-true}
+use Rattle.std.specs.Prelude.{slice_get, slice_index, nat_lt, nat_le}
 use Rattle.std.proofs.lemmas.Bool.{cases_lt, cases_eq}
 use Rattle.std.proofs.lemmas.Bool.Decides.{nat_tests}
 use Rattle.std.proofs.lemmas.List.{length-append}
@@ -8,7 +8,7 @@ use Rattle.il_model.specs.declared.entry.Entry.{Entry}
 use Rattle.rgctx_words.specs.declared.place.ContextPlace.{ContextPlace}
 use Rattle.rgctx_words.specs.declared.place.ContextPlace.TheVariants as cell
 use Rattle.rgctx_words.specs.declared.directory.DirectoryWord.{DirectoryWord}
-use Rattle.rgctx_words.specs.Regions.{word_count, node_count, row_count, row_words, directory_at, rows_address, directory_index, root_index, row_index, row_address, row_at}
+use Rattle.rgctx_words.specs.Regions.{word_count, node_count, row_count, rows_address, directory_index, root_index, row_index, row_address, row_at}
 use Rattle.rgctx_words.specs.Places.{row_entries, depth_of, slot_of, entry_of, place_of}
 use Rattle.rgctx_words.specs.Directory.{directory_word, directory_read}
 use Rattle.rgctx_words.specs.Held.{Grows, with_claim}
@@ -19,9 +19,7 @@ use Rattle.rgctx_fill.specs.declared.stage.Stage.{Stage}
 use Rattle.rgctx_fill.specs.declared.stage.Stage.TheVariants as stage
 use Rattle.rgctx_fill.specs.declared.stage.Region.{Region}
 use Rattle.rgctx_fill.specs.declared.stage.Region.TheVariants as region
-use Rattle.rgctx_fill.specs.declared.stage.FillNext.{FillNext}
 use Rattle.rgctx_fill.specs.declared.stage.FillNext.TheVariants as next
-use Rattle.rgctx_fill.specs.declared.stage.FillStep.{FillStep}
 use Rattle.rgctx_fill.specs.declared.stage.FillStep.TheVariants as step
 use Rattle.rgctx_fill.specs.Spelled.{spelled_from, spelled_below, spelled}
 use Rattle.rgctx_fill.specs.Leaves.{IsLeaf, last_leaf}
@@ -29,12 +27,12 @@ use Rattle.rgctx_fill.specs.Nodes.{MayStand}
 use Rattle.rgctx_fill.specs.Templates.{template_at, tree_template}
 use Rattle.rgctx_fill.specs.NamedValues.{IsNamed}
 use Rattle.rgctx_fill.specs.Fitting.{directory, use_of, IsRow, IsRowOf, IsNext, IsEntry, AreFitting}
-use Rattle.rgctx_fill.specs.Claims.{ArePassed, MayNode, MayRow, MayClaim, Allows, NamesFrom, IsSure, Shows}
-use Rattle.rgctx_fill.specs.SpelledLaws.{is_zero, spelled-grows}
+use Rattle.rgctx_fill.specs.Claims.{ArePassed, MayNode, MayClaim, Allows, NamesFrom, Shows}
+use Rattle.rgctx_fill.specs.SpelledLaws.{spelled-grows}
 use Rattle.rgctx_fill.specs.GrowthLaws.{within-used, use-grows, named-grows}
 use Rattle.rgctx_fill.specs.PlaceLaws.{node-place, directory-place, root-place, link-place, entry-place}
-use Rattle.rgctx_fill.specs.Turns.{FillData, IsAt, IsFill, HasPlace, node_for, word_for, node_key, row_key, link_index, value_of, next_at, next_of, with_stage, with_node, first_stage, at_row, row_or_first, taken_at, taken, given_at}
-use Rattle.rgctx_fill.specs.Plans.{Spells, AreSpelled, IsStep, IsPlan}
+use Rattle.rgctx_fill.specs.Turns.{FillData, IsAt, IsFill, HasPlace, node_for, word_for, node_key, row_key, link_index, value_of, next_at, next_of, with_stage, with_node, at_row, row_or_first, taken_at, taken, given_at}
+use Rattle.rgctx_fill.specs.Plans.{Spells, AreSpelled, IsStep}
 use Rattle.rgctx_fill.specs.Ready.{row_for, IsRowAt, IsBefore, AreBelow, IsFilled, HasAll, Knows, IsReady, IsLoaded, IsClaimed, claims_after, IsAnswered, IsMade, IsTurn, HasNoPlace, Comes, IsOn}
 use Rattle.rgctx_fill.proofs.NodeLaws.{named-only}
 use Rattle.rgctx_fill.proofs.ShownLaws.{sure-grows, shows-named}

@@ -19,3 +19,4 @@ pub mod GrowthLaws
 pub mod ClaimLaws
 pub mod LeafLaws
 pub mod Predefined
+pub mod ImageCatalogues

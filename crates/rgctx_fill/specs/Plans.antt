@@ -5,7 +5,7 @@ use Rattle.rgctx_words.specs.Regions.{node_count}
 use Rattle.rgctx_words.specs.NodeWords.{node_read}
 use Rattle.rgctx_fill.specs.declared.spelled.NodeTree.{NodeTree}
 use Rattle.rgctx_fill.specs.declared.stage.NodeStep.{NodeStep}
-use Rattle.rgctx_fill.specs.Spelled.{spelled_by, spelled}
+use Rattle.rgctx_fill.specs.Spelled.{spelled_by}
 use Rattle.rgctx_fill.specs.Nodes.{MayStand}
 use Rattle.rgctx_fill.specs.Turns.{word_for}
 

@@ -20,7 +20,7 @@ use Rattle.rgctx_fill.specs.Templates.{template_at}
 use Rattle.rgctx_fill.specs.NamedValues.{IsNamed}
 use Rattle.rgctx_fill.specs.Fitting.{directory, use_of}
 use Rattle.rgctx_fill.specs.Claims.{ArePassed, IsSure}
-use Rattle.rgctx_fill.specs.Turns.{FillData, IsFill, node_for, node_key, row_key, value_of, next_of, taken, given_at}
+use Rattle.rgctx_fill.specs.Turns.{FillData, IsFill, node_for, node_key, row_key, next_of, taken, given_at}
 use Rattle.rgctx_fill.specs.Plans.{AreSpelled, IsPlan}
 
 -- ---- what is found

@@ -70,7 +70,7 @@ pub record IsNameable (program : Program) : Type 0 where
   pub class_vars : (number : ℕ) (c : ClassDef) → slice_get program.classes number ≡ Some c → length c.vars ≤ 3
   pub method_vars : (number : ℕ) (m : MethodDef) → method_at program number ≡ Some m → length m.vars ≤ 2
 
--- what fills ask of a catalogue: each entry of whatever may have a node is whole with its arguments, and has a row that the directory can name
+-- what the plans of fills ask of a catalogue: each entry of whatever may have a node is whole with its arguments, and has a row that the directory can name
 pub record IsFillable (cat : CatData) : Type 0 where
   pub types : HasTypes cat.program
   pub slots : EachClass HasFewSlots cat.program

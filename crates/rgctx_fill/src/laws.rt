@@ -8,6 +8,8 @@ ghost use Rattle.rgctx_fill.specs.declared.stage.Stage.TheVariants as stage;
 ghost use Rattle.rgctx_fill.specs.Fitting.{AreFitting};
 ghost use Rattle.rgctx_fill.specs.Turns.{FillData};
 ghost use Rattle.rgctx_fill.specs.Ready.{IsTurn, IsFilled};
+ghost use Rattle.rgctx_fill.specs.Starting.{IsFillable};
+ghost use Rattle.rgctx_fill.specs.ImageCatalogues.{IsImageCatalogue};
 ghost use Rattle.rgctx_fill.specs.Interleaved.{Shared, interleaved, IsTurned, AreUnderWay};
 
 pub use crate::reading::node_tree;
@@ -26,4 +28,10 @@ pub fn fills_of_an_entry_answer_one_value()
     ensures one { (cat : CatData) (s : Shared) (ks : List ℕ) → AreUnderWay cat s → (i j : ℕ) (f g : FillData) (v w : ℕ)
         → slice_get (interleaved s ks).fills i ≡ Some f → slice_get (interleaved s ks).fills j ≡ Some g
         → f.node ≡ g.node → f.entry ≡ g.entry → f.stage ≡ stage.Done v → g.stage ≡ stage.Done w → v ≡ w }
+{}
+
+/// A fill may start over the catalogue of every image: each entry of whatever may have a node is whole, once the
+/// arguments of the node are put. A law alone: it does nothing.
+pub fn image_catalogues_are_fillable()
+    ensures { (cat : CatData) → IsImageCatalogue cat → IsFillable cat }
 {}

@@ -6,7 +6,8 @@ ghost use Rattle.rgctx_template.specs.declared.catalogue.Catalogue.{Catalogue};
 ghost use Rattle.rgctx_template.specs.Catalogue.{data_of};
 ghost use Rattle.rgctx_fill.specs.Templates.{template_at};
 ghost use Rattle.rgctx_fill.specs.Claims.{IsSure, Shows};
-ghost use Rattle.rgctx_fill.specs.Starting.{IsFillable, Starts};
+ghost use Rattle.rgctx_fill.specs.Starting.{Starts};
+ghost use Rattle.rgctx_fill.specs.ImageCatalogues.{IsImageCatalogue};
 
 use crate::fill::Fill;
 use crate::naming::{Planned, entry_at, plan_of};
@@ -29,7 +30,7 @@ pub enum FillStart {
 impl Fill {
     /// Starts the fill of an entry of a node, both counted from 0: it reads what the node spells, and finds what the
     /// entry names and whether this is admitted. Refused comes exactly where it isn't, with the limit that it
-    /// passes. Words are loaded as `node_tree` loads them, and none is claimed.
+    /// passes. Words are loaded as `node_tree` loads them, and none is claimed. The catalogue is that of an image.
     pub fn start<W: Words<Fits>>(
         alloc: Global,
         cat: &Catalogue,
@@ -38,7 +39,7 @@ impl Fill {
         entry: u16,
     ) -> Result<FillStart, NoMemory>
         requires number { (0 < node) × (node < node_count) }
-        requires fillable { IsFillable (data_of cat.now) }
+        requires image { IsImageCatalogue (data_of cat.now) }
         requires met { W.meets cat.now words.old }
         requires shown { Shows (data_of cat.now) (W.held words.old) node }
         requires entry { IsSure (data_of cat.now) (W.held words.old) (λ at. entry < length (template_at (data_of cat.now) at node)) }

@@ -1,4 +1,4 @@
-use Rattle.std.proofs.Common.{◌≡◌, map, ap, ◌∙◌, rules}
+use Rattle.std.proofs.Common.{◌≡◌, map, rules}
 use Rattle.il_model.specs.Admission.{limit_of}
 use Rattle.il_model.specs.Methods.{worst}
 use Rattle.rgctx_fill.proofs.LoopLemmas.{limit-whole}
