@@ -26,3 +26,7 @@ pub mod WholeText
 pub mod WholeOffsets
 pub mod WholeEntries
 pub mod WholeImage
+pub mod FrameLemmas
+pub mod EnterLemmas
+pub mod ValueLemmas
+pub mod MachineLemmas

@@ -20,3 +20,11 @@ pub mod ClaimLaws
 pub mod LeafLaws
 pub mod Predefined
 pub mod ImageCatalogues
+pub mod FramePlans
+pub mod ThreadStates
+pub mod Accesses
+pub mod MachineTurns
+pub mod Services
+pub mod ThreadTurns
+pub mod FrameMaps
+pub mod Standing

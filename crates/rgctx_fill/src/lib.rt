@@ -3,6 +3,7 @@
 
 mod applying;
 mod beginning;
+mod doing;
 mod fill;
 pub mod laws;
 mod limits;
@@ -16,12 +17,15 @@ mod starting;
 mod templating;
 #[cfg(test)]
 mod tests;
+mod thread;
 mod turning;
 mod values;
 
 pub use beginning::opening_words;
+pub use doing::Doing;
 pub use fill::Fill;
 pub use rule::Fits;
 pub use spelled::{NodeTemplate, NodeTree};
 pub use stage::{FillNext, FillStep, NodeStep, Region, Stage};
 pub use starting::FillStart;
+pub use thread::{ThreadState, Want};
