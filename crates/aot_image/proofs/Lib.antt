@@ -24,3 +24,5 @@ pub mod CatalogueInstrs
 pub mod CatalogueMembers
 pub mod CatalogueMain
 pub mod CatalogueForm
+pub mod KeptTypes
+pub mod KeptPicks

@@ -16,3 +16,4 @@ pub mod ChoosingSame
 pub mod ChoosingLines
 pub mod Choosing
 pub mod Catalogued
+pub mod Kept

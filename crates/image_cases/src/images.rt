@@ -16,14 +16,14 @@ const PROGRAM: &[u8] =
 const CODE: [u8; 8] = [0, 0, 0, 0, 0x73, 0, 0x10, 0];
 
 // The canonical text of the program.
-fn text_of(alloc: Global) -> Result<Vec<u8>, Fail> {
+pub(crate) fn text_of(alloc: Global) -> Result<Vec<u8>, Fail> {
     let parsed = parse(alloc, PROGRAM).ok().ok_or("the text parses")?;
     let text = print(alloc, &parsed.program).ok().ok_or("memory")?;
     Ok(text)
 }
 
 // An image with this text and these rows, and where the rows begin.
-fn image_of(
+pub(crate) fn image_of(
     alloc: Global,
     text: &[u8],
     bodies: u32,
@@ -69,7 +69,7 @@ const BODIES: [u8; 24] = [
 ];
 
 // Of each kind one entry: `int32[]`, `Cell::Go`, the size of `int64`, the words of `P`, the field of `Cell`.
-const ENTRIES: [u8; 21] = [
+pub(crate) const ENTRIES: [u8; 21] = [
     0, 4, 0, 1, 0, //
     1, 12, 0, 29, 0, //
     2, 2, 0, //
