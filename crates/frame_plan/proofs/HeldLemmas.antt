@@ -209,15 +209,15 @@ module _ (program : Program) where
         let width : width_unless program t (limit_of program t) ≡ words_of program t = ap (width_unless program t) limit in
         omega arith
 
-    by_kind : (r c : Bool) (t u : TExpr) → (r ≡ true → is_reference program u ≡ true) → (c ≡ true → u ≡ t) → limit_of program u ≡ None →
-        words_of program u ≤ cond r 1 (cond c (width_unless program t (limit_of program t)) most_words)
-    by_kind true c t u reference closed none = let one : words_of program u ≡ 1 = reference_word u (reference refl) in omega arith
-    by_kind false true t u reference closed none = unless_wide t u (closed refl) none
-    by_kind false false t u reference closed none = few_words program u none
+    by_closed : (c r : Bool) (t u : TExpr) → (c ≡ true → u ≡ t) → (r ≡ true → is_reference program u ≡ true) → limit_of program u ≡ None →
+        words_of program u ≤ cond c (width_unless program t (limit_of program t)) (cond r 1 most_words)
+    by_closed true r t u closed reference none = unless_wide t u (closed refl) none
+    by_closed false true t u closed reference none = let one : words_of program u ≡ 1 = reference_word u (reference refl) in omega arith
+    by_closed false false t u closed reference none = few_words program u none
 
     wide_enough : (t : TExpr) → limit_of program (given t) ≡ None → words_of program (given t) ≤ width_of program (stands t)
     wide_enough t none =
-        by_kind (is_reference program (stands t)) (is_closed (stands t)) (stands t) (given t) (same_reference t) (same_closed t) none
+        by_closed (is_closed (stands t)) (is_reference program (stands t)) (stands t) (given t) (same_closed t) (same_reference t) none
 
   enough_split : (count : ℕ) (key : List KeyPart) (ac am : List TExpr) → length ac ≡ count → ServesEach key (ac ++ am) → HasNoRef key → (t : TExpr) →
       limit_of program (substituted ac am t) ≡ None → words_of program (substituted ac am t) ≤ width_in program (stand_ins_with count key) t

@@ -17,7 +17,7 @@ use Rattle.cil_flow.specs.declared.state.State.{State}
 use Rattle.cil_flow.specs.declared.state.StackType.{StackType}
 use Rattle.cil_flow.specs.declared.state.StackType.TheVariants as stack
 use Rattle.frame_plan.specs.declared.kinds.StandIns.{StandIns}
-use Rattle.frame_plan.specs.Widths.{is_closed, width_unless, width_of_value, width_of, stand_ins_of}
+use Rattle.frame_plan.specs.Widths.{is_closed, width_unless, width_of_open, width_of, stand_ins_of}
 use Rattle.frame_plan.specs.Places.{width_of_place, width_of_stack, state_widths, widest, stack_widths, object_widths, locals_in, place_widths, deepest, place_count}
 use Rattle.frame_plan.specs.Named.{most_passed}
 use Rattle.frame_plan.specs.Planned.{plan_of, IsSmallBody}
@@ -34,8 +34,8 @@ unless_few program t (Some limit) is = omega arith
 
 pub width_few : (program : Program) (t : TExpr) → width_of program t ≤ most_words
 width_few program t =
-    either (is_reference program t) 1 (width_of_value program t) most_words (omega arith)
-    (either (is_closed t) (width_unless program t (limit_of program t)) most_words most_words (unless_few program t (limit_of program t) refl) (omega arith))
+    either (is_closed t) (width_unless program t (limit_of program t)) (width_of_open program t) most_words (unless_few program t (limit_of program t) refl)
+    (either (is_reference program t) 1 most_words most_words (omega arith) (omega arith))
 
 module _ (program : Program) (ins : StandIns) where
   place_few : (place : PType) → width_of_place program ins place ≤ most_words

@@ -34,18 +34,18 @@ stand_ins_of program m key = stand_ins_with (length (vars_in (slice_get program.
 abbrev pub is_closed : TExpr → Bool
 is_closed t = has_variables_below 0 0 t
 
--- the width for a value type without variables, with the limit that it passes: a value of a type that isn't admitted never arises
+-- the width for a type without variables, with the limit that it passes: a value of a type that isn't admitted never arises
 abbrev pub width_unless : Program → TExpr → Option Limit → ℕ
 width_unless program t None = words_of program t
 width_unless program t (Some limit) = most_words
 
--- the width for a type that is no reference type; what may be of any size takes the words of the largest value
-abbrev pub width_of_value : Program → TExpr → ℕ
-width_of_value program t = if is_closed t then width_unless program t (limit_of program t) else most_words
+-- the width for a type with variables left: a reference has one word, and what may be of any size takes the words of the largest value
+abbrev pub width_of_open : Program → TExpr → ℕ
+width_of_open program t = if is_reference program t then 1 else most_words
 
 -- the width for a type in which stand-ins are put
 abbrev pub width_of : Program → TExpr → ℕ
-width_of program t = if is_reference program t then 1 else width_of_value program t
+width_of program t = if is_closed t then width_unless program t (limit_of program t) else width_of_open program t
 
 -- the width for a type of the definition
 abbrev pub width_in : Program → StandIns → TExpr → ℕ

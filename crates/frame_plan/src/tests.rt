@@ -25,6 +25,7 @@ enum Kind {
     OfVar,
     Var,
     Vector,
+    Deep,
     Address,
     Native,
 }
@@ -42,6 +43,15 @@ fn applied(alloc: Global, head: Head, part: TExpr) -> Result<TExpr, Fail> {
     Ok(TExpr::node(head, parts))
 }
 
+// A vector of 257 positions, which is not admitted.
+fn deep(alloc: Global, inner: TExpr) -> Result<TExpr, Fail> {
+    let mut outer = inner;
+    for _ in 0..256 {
+        outer = applied(alloc, Head::Vector, outer)?;
+    }
+    Ok(outer)
+}
+
 fn plain(alloc: Global, kind: Kind) -> TExpr {
     match kind {
         Kind::Object => TExpr::plain(alloc, Head::Class(0)),
@@ -49,10 +59,8 @@ fn plain(alloc: Global, kind: Kind) -> TExpr {
         Kind::Large => TExpr::plain(alloc, Head::Class(2)),
         Kind::Nothing => TExpr::plain(alloc, Head::Class(3)),
         Kind::Var | Kind::OfVar => TExpr::class_var(0),
-        Kind::Int | Kind::OfInt | Kind::Vector | Kind::Address | Kind::Native => TExpr::plain(
-            alloc,
-            Head::Int32,
-        ),
+        Kind::Int | Kind::OfInt | Kind::Vector | Kind::Deep | Kind::Address | Kind::Native =>
+            TExpr::plain(alloc, Head::Int32),
     }
 }
 
@@ -61,6 +69,7 @@ fn tree(alloc: Global, kind: Kind) -> Result<TExpr, Fail> {
     match kind {
         Kind::OfInt | Kind::OfPair | Kind::OfVar => applied(alloc, Head::Class(4), inner),
         Kind::Vector => applied(alloc, Head::Vector, inner),
+        Kind::Deep => deep(alloc, inner),
         _ => Ok(inner),
     }
 }
@@ -182,8 +191,8 @@ const CASES: [Case; 6] = [
            offsets: &[8, 10, 11, 13], widths: &[2, 1, 2, 1], frame: 30 },
     Case { shape: Shape::Fixed, params: &[Kind::OfVar, Kind::Var, Kind::OfInt], locals: &[], passes: None, stacks: &[VAR], part: Kind::Var,
            offsets: &[8, 24, 40, 42], widths: &[16, 16, 2, 16], frame: 74 },
-    Case { shape: Shape::Fixed, params: &[Kind::Large, Kind::Pair], locals: &[], passes: None, stacks: &[EMPTY], part: Kind::Int,
-           offsets: &[8, 24], widths: &[16, 2], frame: 42 },
+    Case { shape: Shape::Fixed, params: &[Kind::Large, Kind::Pair, Kind::Deep], locals: &[], passes: None, stacks: &[EMPTY], part: Kind::Int,
+           offsets: &[8, 24, 26], widths: &[16, 2, 16], frame: 58 },
 ];
 
 fn part(alloc: Global, kind: Kind) -> Result<KeyPart, Fail> {

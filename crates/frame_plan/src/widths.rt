@@ -1,7 +1,7 @@
 // How wide a place is for the values of a type.
 ghost use Rattle.std.specs.Prelude.{◌≡◌, IfOk};
 ghost use Rattle.il_model.specs.Admission.{limit_of};
-ghost use Rattle.frame_plan.specs.Widths.{width_unless, width_of_value, width_of, width_in};
+ghost use Rattle.frame_plan.specs.Widths.{width_unless, width_of_open, width_of, width_in};
 ghost use Rattle.frame_plan.specs.Places.{width_of_place, width_of_stack};
 
 use crate::kinds::{StandIns, is_closed};
@@ -65,23 +65,23 @@ fn width_in(alloc: Global, program: &Program, ins: &StandIns, kind: &TExpr) -> R
 fn width_of(alloc: Global, program: &Program, kind: &TExpr) -> Result<u32, NoMemory>
     ensures { IfOk result (λ width. width ≡ width_of program.now kind.now) }
 {
-    if is_reference(program, kind) {
-        return Ok(1);
-    }
-    width_of_value(alloc, program, kind)
-}
-
-// The width for a type that is no reference type.
-fn width_of_value(alloc: Global, program: &Program, kind: &TExpr) -> Result<u32, NoMemory>
-    ensures { IfOk result (λ width. width ≡ width_of_value program.now kind.now) }
-{
     if is_closed(kind) {
         return closed_width(alloc, program, kind);
     }
-    Ok(16)
+    Ok(open_width(program, kind))
 }
 
-// The width for a value type without variables.
+// The width for a type with variables left.
+fn open_width(program: &Program, kind: &TExpr) -> u32
+    ensures { result ≡ width_of_open program.now kind.now }
+{
+    if is_reference(program, kind) {
+        return 1;
+    }
+    16
+}
+
+// The width for a type without variables.
 #[tactic(auto, using(crate::proofs::AdmittedLemmas::width_admitted, crate::proofs::AdmittedLemmas::width_limited))]
 fn closed_width(alloc: Global, program: &Program, kind: &TExpr) -> Result<u32, NoMemory>
     ensures { IfOk result (λ width. width ≡ width_unless program.now kind.now (limit_of program.now kind.now)) }
