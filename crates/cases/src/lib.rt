@@ -6,4 +6,6 @@ mod checked;
 #[cfg(test)]
 mod limits;
 #[cfg(test)]
+mod meaning;
+#[cfg(test)]
 mod verifying;
