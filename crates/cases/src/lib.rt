@@ -6,6 +6,4 @@ mod checked;
 #[cfg(test)]
 mod limits;
 #[cfg(test)]
-mod meaning;
-#[cfg(test)]
 mod verifying;
