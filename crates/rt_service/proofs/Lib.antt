@@ -1,2 +1,0 @@
-mod TreeLemmas
-mod PointerLemmas
