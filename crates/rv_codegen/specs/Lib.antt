@@ -1,6 +1,0 @@
-pub mod Emitted
-pub mod FrameWords
-pub mod Constants
-pub mod PlainItems
-pub mod Admitted
-pub mod Carried
