@@ -122,9 +122,6 @@ all_map f (x ∷ xs) = ap (λ b. f x && b) (all_map f xs)
 pub closed_node : (h : Head) (parts : List TExpr) → has_variables_below 0 0 (node h parts) ≡ list_all (has_variables_below 0 0) parts
 closed_node h parts = folded-node (level_below 0 0) h parts ∙ all_map (has_variables_below 0 0) parts
 
-pub closed_top : (t : TExpr) (h : Head) (parts : List TExpr) → top_of t ≡ Node h parts → list_all (has_variables_below 0 0) parts ≡ has_variables_below 0 0 t
-closed_top t h parts is = sym (ap (has_variables_below 0 0) (tree_of-is t (Node h parts) is) ∙ closed_node h parts)
-
 -- ---- keys
 
 and_assoc : (a b c : Bool) → (a && (b && c)) ≡ ((a && b) && c)

@@ -12,7 +12,7 @@ use il_model::{KeyPart, Program, VarDef};
 use mn_outside::NoMemory;
 use sqlite_items::Items;
 use std::alloc::Global;
-use type_tree::{TExpr, TNode, subst_whole};
+use type_tree::{TExpr, is_closed, subst_whole};
 
 /// Whether the parts of a key meet the bounds of the class's variables and then of the method's.
 pub(crate) fn key_meets(
@@ -192,27 +192,4 @@ fn meets_where_closed(
         return Ok(true);
     }
     meets_bound(alloc, program, &[], &[], tree, bound)
-}
-
-/// Whether a type has no variables.
-#[cycle(closed)]
-pub(crate) fn is_closed(kind: &TExpr) -> bool
-    ensures { result ≡ has_variables_below 0 0 kind.now }
-{
-    match kind.top() {
-        TNode::Node(_, parts) => are_closed(parts.as_slice()),
-        TNode::ClassVar(_) | TNode::MethodVar(_) => false,
-    }
-}
-
-#[cycle(closed)]
-fn are_closed(kinds: &[TExpr]) -> bool
-    ensures { result ≡ list_all (has_variables_below 0 0) kinds.now }
-{
-    for kind in kinds {
-        if !is_closed(kind) {
-            return false;
-        }
-    }
-    true
 }

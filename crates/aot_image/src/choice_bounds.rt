@@ -7,7 +7,7 @@ ghost use Rattle.rgctx_template.specs.BodyRows.{vars_of_owner};
 ghost use Rattle.aot_image.specs.ChoosingBounds as spec;
 ghost use Rattle.aot_image.specs.ChoosingSizes.{IsCounted, StandFor};
 
-use crate::bounds::{is_closed, key_meets};
+use crate::bounds::key_meets;
 use crate::choice_fault::ChoiceCause;
 use crate::choice_keys::Keys;
 use crate::decoding_bodies::vars_of_owner;
@@ -15,7 +15,7 @@ use crate::judging::{is_admitted, is_bounded_throughout};
 use il_model::{KeyPart, MethodDef, Program};
 use mn_outside::NoMemory;
 use std::alloc::Global;
-use type_tree::TExpr;
+use type_tree::{TExpr, is_closed};
 
 /// Whether a part is no type with variables.
 pub(crate) fn is_closed_part(part: &KeyPart) -> bool

@@ -1,10 +1,9 @@
 -- The depths of a body: each follows from the earlier ones, and none is more than its number and one.
-use Rattle.std.proofs.Common.{◌≡◌, ℕ, zero, suc, ◌+◌, ◌-◌, ◌*◌, ◌<◌, ◌≤◌, ◌==◌, Bool, true, false, cond, List, [], ◌∷◌, ◌++◌, length, take, get_or, slice_get, Some, None, Option, option_and_then, unwrap_or, subst, sym, ap, ◌∙◌, refl, arith, inl, inr, ◌⊎◌}
+use Rattle.std.proofs.Common.{◌≡◌, ℕ, zero, suc, ◌+◌, ◌*◌, ◌<◌, ◌≤◌, Bool, true, false, cond, List, [], length, get_or, slice_get, Some, None, Option, option_and_then, unwrap_or, subst, sym, ap, ◌∙◌, refl, arith, inl, inr}
 use Rattle.std.specs.Option.{option_or}
 use Rattle.std.proofs.Math.Nat.{eq-or-lt_of_le}
 use Rattle.std.proofs.Math.ListN.{length-append, get_or-append}
 use Rattle.std.proofs.Math.Seq.{get_or-append_seam}
-use Rattle.std.proofs.lemmas.Grind.{common_steps}
 use Rattle.il_model.specs.declared.op.Op.{Op}
 use Rattle.il_model.specs.declared.method.Body.{Body}
 use Rattle.cil_flow.specs.declared.control.Control.{Control}
@@ -14,7 +13,7 @@ use Rattle.cil_flow.specs.Effects.{effect_of}
 use Rattle.cil_flow.proofs.EffectLemmas.{effect_small}
 use Rattle.cil_flow.specs.Control.{control_at}
 use Rattle.cil_flow.specs.Regions.{begins_handler}
-use Rattle.cil_flow.specs.Depths.{depth_moved, depth_left, depth_after, goes_on_to, arrival, first_arrival, depth_given, depths_before, depths_of}
+use Rattle.cil_flow.specs.Depths.{depth_left, depth_after, goes_on_to, arrival, first_arrival, depth_given, depths_before, depths_of}
 
 -- what arrives depends on the depths before the instructions that go on alone
 pub arrivals_agree : (has_result : Bool) (code : List Op) (ds es : List ℕ) (to k : ℕ) → ((j : ℕ) → j < k → get_or ds j 0 ≡ get_or es j 0) →

@@ -1,5 +1,5 @@
 -- No instruction leaves more than two values.
-use Rattle.std.proofs.Common.{ℕ, ◌≤◌, Bool, true, false, is_some, arith}
+use Rattle.std.proofs.Common.{◌≤◌, Bool, true, false, is_some, arith}
 use Rattle.il_model.specs.declared.op.Op.{Op}
 use Rattle.il_model.specs.declared.op.Op.TheVariants as op
 use Rattle.cil_flow.specs.Effects.{count_if, effect_of}

@@ -1,5 +1,5 @@
 -- What the pass knows is what the definitions say.
-use Rattle.std.proofs.Common.{◌≡◌, ℕ, zero, suc, ◌+◌, ◌*◌, ◌<◌, ◌≤◌, ◌==◌, nat_le, nat_lt, Bool, true, false, cond, not, ◌&&◌, ◌||◌, List, [], ◌∷◌, ◌++◌, length, take, get_or, slice_get, Some, None, Option, option_and_then, unwrap_or, subst, sym, ap, ◌∙◌, refl, arith, eq-eqb, eqb-true, inl, inr}
+use Rattle.std.proofs.Common.{◌≡◌, ℕ, suc, ◌+◌, ◌*◌, ◌<◌, ◌≤◌, ◌==◌, nat_le, nat_lt, Bool, true, false, cond, not, ◌&&◌, ◌||◌, List, [], ◌∷◌, ◌++◌, length, take, get_or, slice_get, Some, None, Option, option_and_then, unwrap_or, subst, sym, ap, ◌∙◌, refl, arith, eq-eqb, eqb-true, inl, inr}
 use Rattle.std.specs.Option.{option_or, is_none}
 use Rattle.std.specs.List.{list_any}
 use Rattle.std.proofs.lemmas.Bool.Decides.{nat_tests}
@@ -9,13 +9,11 @@ use Rattle.std.proofs.Math.Seq.{take-suc}
 use Rattle.std.proofs.lemmas.Option.{slice_get_within}
 use Rattle.il_model.specs.declared.op.Op.{Op}
 use Rattle.il_model.specs.declared.method.Body.{Body}
-use Rattle.il_model.specs.declared.method.Clause.{Clause}
 use Rattle.cil_flow.specs.Effects.{effect_of}
 use Rattle.cil_flow.specs.Control.{falls, control_at, targets_of, any_follower}
 use Rattle.cil_flow.specs.Regions.{begins_try, begins_handler}
-use Rattle.cil_flow.specs.Depths.{depth_after, goes_on_to, arrival, first_arrival, depth_given, depths_of}
+use Rattle.cil_flow.specs.Depths.{depth_after, goes_on_to, arrival, first_arrival, depths_of}
 use Rattle.cil_flow.specs.Flow.{leads_out, has_enough, is_unreached, meets_badly, is_bad_step, is_deep_enough, is_bad_meeting, cause_of_step}
-use Rattle.cil_flow.specs.declared.fault.FlowCause.{FlowCause}
 use Rattle.cil_flow.specs.declared.fault.FlowCause.TheVariants as cause
 use Rattle.cil_flow.specs.Pass.{known, Knows, expected, clashes, noted_by}
 use Rattle.cil_flow.proofs.DepthLemmas.{depths_before-length, depth_is_given, depths_shallow, arrival_stays}

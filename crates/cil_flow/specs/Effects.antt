@@ -1,5 +1,5 @@
 -- How many values each form takes from the stack and leaves on it. After ECMA-335, Partition III; the library's calls are this project's own.
-use Rattle.std.specs.Prelude.{ℕ, ◌+◌, Bool, if◌then◌else◌, length, Option, is_some}
+use Rattle.std.specs.Prelude.{ℕ, ◌+◌, Bool, if◌then◌else◌, length, is_some}
 use Rattle.il_model.specs.declared.member.MRef.{MRef}
 use Rattle.il_model.specs.declared.op.Op.{Op}
 use Rattle.il_model.specs.declared.op.Op.TheVariants as op

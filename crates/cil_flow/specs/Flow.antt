@@ -1,7 +1,6 @@
 -- The flow of a body: its depths and targets, or the first instruction at which a rule is broken. After ECMA-335, Partition III, as far as this project's rules go.
-use Rattle.std.specs.Prelude.{ℕ, zero, suc, ◌+◌, ◌==◌, nat_lt, nat_le, max, Bool, true, false, not, ◌&&◌, ◌||◌, if◌then◌else◌, List, [], length, slice_get, slice_index, ◌≡◌, Option, Some, None, option_map, is_none, Result, Ok, Err, ⊤}
+use Rattle.std.specs.Prelude.{ℕ, zero, suc, ◌==◌, nat_le, max, Bool, true, false, not, ◌&&◌, ◌||◌, if◌then◌else◌, List, length, slice_get, slice_index, ◌≡◌, Option, Some, None, option_map, is_none, Result, Ok, Err, ⊤}
 use Rattle.std.specs.Option.{option_or}
-use Rattle.std.specs.List.{list_any}
 use Rattle.mn_outside.specs.declared.outside.Refused.{Refused}
 use Rattle.mn_outside.specs.declared.outside.Refused.TheVariants as refused
 use Rattle.il_model.specs.declared.op.Op.{Op}
@@ -16,7 +15,7 @@ use Rattle.cil_flow.specs.declared.fault.FlowCause.TheVariants as cause
 use Rattle.cil_flow.specs.declared.outcome.Flow.{Flow}
 use Rattle.cil_flow.specs.Effects.{effect_of}
 use Rattle.cil_flow.specs.Control.{control_at, any_follower}
-use Rattle.cil_flow.specs.Regions.{is_enclosed, begins_try, begins_handler, crosses, first_bad_place}
+use Rattle.cil_flow.specs.Regions.{is_enclosed, begins_try, crosses, first_bad_place}
 use Rattle.cil_flow.specs.Depths.{depth_after, first_arrival, depths_of, targets_before}
 
 -- whether an instruction goes on to a number past the last instruction: a target that is none, or the fall behind the last

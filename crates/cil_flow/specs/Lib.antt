@@ -4,3 +4,4 @@ pub mod Regions
 pub mod Depths
 pub mod Flow
 pub mod Pass
+pub mod FramePlans

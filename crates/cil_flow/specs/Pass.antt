@@ -1,12 +1,11 @@
 -- What the pass over a body keeps: with which depth an earlier instruction went on to each one, and the depths so far. This project's own.
-use Rattle.std.specs.Prelude.{◌≡◌, ℕ, ◌<◌, ◌≤◌, ◌==◌, nat_le, nat_lt, Bool, not, ◌&&◌, ◌||◌, if◌then◌else◌, List, length, take, slice_index, slice_index_or, Option, Some, None, unwrap_or, is_none}
+use Rattle.std.specs.Prelude.{◌≡◌, ℕ, ◌<◌, ◌≤◌, ◌==◌, nat_le, nat_lt, Bool, not, ◌&&◌, ◌||◌, if◌then◌else◌, List, length, slice_index, slice_index_or, Option, Some, None, unwrap_or, is_none}
 use Rattle.std.specs.Option.{option_or}
 use Rattle.std.specs.List.{list_any}
 use Rattle.il_model.specs.declared.method.Clause.{Clause}
 use Rattle.il_model.specs.declared.method.Body.{Body}
 use Rattle.il_model.specs.declared.op.Op.{Op}
 use Rattle.cil_flow.specs.Regions.{begins_try, begins_handler}
-use Rattle.cil_flow.specs.Control.{any_follower}
 use Rattle.cil_flow.specs.Depths.{first_arrival, depths_of, goes_on_to}
 
 -- with which depth an instruction went on to this one, so far as is known

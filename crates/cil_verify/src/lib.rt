@@ -45,6 +45,7 @@ mod type_set;
 mod vectors;
 mod verified;
 mod verifying;
+mod view;
 mod written;
 
 pub use admitting::{are_numbers, is_called_on, may_be_read, may_equal, may_exceed, may_test};
@@ -61,4 +62,5 @@ pub use sizes::fits_numbers;
 pub use stacks::{are_assignable, joined_stacks};
 pub use verified::Verified;
 pub use verifying::verify;
+pub use view::BodyView;
 pub use written::meets_all_bounds;

@@ -19,14 +19,8 @@ none_below n = grind (arith, nat_tests)
 pub closed_arguments : (h : Head) (parts : List TExpr) → is_closed (node h parts) ≡ list_all is_closed parts
 closed_arguments h parts = folded-node (level_below 0 0) h parts ∙ list_all-map (λ is_below. is_below) (has_variables_below 0 0) parts
 
-pub closed_node : (t : TExpr) (h : Head) (parts : List TExpr) → top_of t ≡ Node h parts → is_closed t ≡ list_all is_closed parts
-closed_node t h parts top = ap is_closed (tree_of-is t (Node h parts) top) ∙ closed_arguments h parts
-
 pub closed_class_var : (t : TExpr) (n : ℕ) → top_of t ≡ ClassVar n → is_closed t ≡ false
 closed_class_var t n top = ap is_closed (tree_of-is t (ClassVar n) top) ∙ folded-class_var (level_below 0 0) n ∙ none_below n
-
-pub closed_method_var : (t : TExpr) (n : ℕ) → top_of t ≡ MethodVar n → is_closed t ≡ false
-closed_method_var t n top = ap is_closed (tree_of-is t (MethodVar n) top) ∙ folded-method_var (level_below 0 0) n ∙ none_below n
 
 -- a list has no more than its length
 pub all_taken : (key : List KeyPart) (count : ℕ) → length key ≤ count → take (length key) key ≡ take count key

@@ -4,7 +4,7 @@ use Rattle.std.specs.List.{sum, AllByRecursion}
 use Rattle.std.proofs.lemmas.List.Sums.{sum_by-cons}
 use Rattle.il_model.specs.Layouts.{offsets_from}
 use Rattle.il_model.specs.Admission.{most_words}
-use Rattle.rgctx_fill.specs.FramePlans.{IsPlan}
+use Rattle.cil_flow.specs.FramePlans.{IsPlan}
 use Rattle.frame_plan.specs.Planned.{laid, most_places}
 
 -- each width is that of one value at most

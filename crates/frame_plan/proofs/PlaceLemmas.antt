@@ -12,7 +12,7 @@ use Rattle.il_model.specs.declared.program.Program.{Program}
 use Rattle.il_model.specs.Find.{takes_object}
 use Rattle.il_model.specs.Kinds.{is_reference}
 use Rattle.il_model.specs.Admission.{most_words, limit_of}
-use Rattle.rgctx_fill.specs.FramePlans.{IsPlan}
+use Rattle.cil_flow.specs.FramePlans.{IsPlan}
 use Rattle.cil_flow.specs.declared.state.State.{State}
 use Rattle.cil_flow.specs.declared.state.StackType.{StackType}
 use Rattle.cil_flow.specs.declared.state.StackType.TheVariants as stack

@@ -1,13 +1,12 @@
-// What a body is compiled for, and which types have no variables.
+// What a body is compiled for.
 ghost use Rattle.std.specs.Prelude.{◌≡◌, ◌≤◌, ◌++◌, ◌∷◌, [], IfOk, OnOk, map, length, take, drop};
-ghost use Rattle.std.specs.List.{list_all};
-ghost use Rattle.frame_plan.specs.Widths.{stand_in, stand_ins_with, is_closed};
+ghost use Rattle.frame_plan.specs.Widths.{stand_in, stand_ins_with};
 
 use il_model::KeyPart;
 use mn_outside::NoMemory;
 use sqlite_items::Items;
 use std::alloc::Global;
-use type_tree::{Head, TExpr, TNode};
+use type_tree::{Head, TExpr};
 
 // What stands for the type variables of a class and of a method.
 #[derive(Drop)]
@@ -69,28 +68,4 @@ fn stand_in(alloc: Global, part: &KeyPart) -> Result<TExpr, NoMemory>
         KeyPart::Any => Ok(TExpr::class_var(0)),
         KeyPart::Exact(tree) => tree.copy(alloc),
     }
-}
-
-// Whether a type has no variables.
-#[cycle(closed)]
-#[tactic(auto, using(crate::proofs::KindLemmas::closed_node, crate::proofs::KindLemmas::closed_class_var, crate::proofs::KindLemmas::closed_method_var))]
-pub(crate) fn is_closed(kind: &TExpr) -> bool
-    ensures { result ≡ is_closed kind.now }
-{
-    match kind.top() {
-        TNode::Node(_, parts) => are_closed(parts.as_slice()),
-        TNode::ClassVar(_) | TNode::MethodVar(_) => false,
-    }
-}
-
-#[cycle(closed)]
-fn are_closed(kinds: &[TExpr]) -> bool
-    ensures { result ≡ list_all is_closed kinds.now }
-{
-    for kind in kinds {
-        if !is_closed(kind) {
-            return false;
-        }
-    }
-    true
 }

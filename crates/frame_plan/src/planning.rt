@@ -5,7 +5,7 @@ ghost use Rattle.il_model.specs.declared.method.MethodDef.{MethodDef};
 ghost use Rattle.il_model.specs.Found.{method_at};
 ghost use Rattle.il_model.specs.Find.{takes_object};
 ghost use Rattle.il_model.specs.ClassRules.{vars_in};
-ghost use Rattle.rgctx_fill.specs.FramePlans.{IsPlan};
+ghost use Rattle.cil_flow.specs.FramePlans.{IsPlan};
 ghost use Rattle.frame_plan.specs.Widths.{stand_ins_of};
 ghost use Rattle.frame_plan.specs.Places.{width_of_place, object_widths, locals_in, place_widths};
 ghost use Rattle.frame_plan.specs.Planned.{plan_of, IsSmallBody};

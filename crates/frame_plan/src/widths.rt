@@ -4,13 +4,13 @@ ghost use Rattle.il_model.specs.Admission.{limit_of};
 ghost use Rattle.frame_plan.specs.Widths.{width_unless, width_of_open, width_of, width_in};
 ghost use Rattle.frame_plan.specs.Places.{width_of_place, width_of_stack};
 
-use crate::kinds::{StandIns, is_closed};
+use crate::kinds::StandIns;
 use cil_flow::StackType;
 use il_model::{PType, Program};
 use mn_outside::{NoMemory, Refused};
 use std::alloc::Global;
 use type_inst::{admitted, is_reference, words_of};
-use type_tree::{TExpr, subst_whole};
+use type_tree::{TExpr, is_closed, subst_whole};
 
 // The width of an argument or a local.
 pub(crate) fn width_of_place(

@@ -3,7 +3,7 @@ use Rattle.std.proofs.Common.{◌≡◌, ◌≢◌, ℕ, suc, ◌+◌, ◌<◌, 
 use Rattle.rgctx_words.specs.Memory.{put}
 use Rattle.rgctx_words.specs.Frames.{frame_address}
 use Rattle.cil_flow.specs.declared.plan.Plan.{Plan}
-use Rattle.rgctx_fill.specs.FramePlans.{IsPlan}
+use Rattle.cil_flow.specs.FramePlans.{IsPlan}
 use Rattle.cil_meaning.specs.Values.{Pointer, Null, InFrame, InFresh, InObject, InStatic, Value, Plain, Managed}
 use Rattle.rgctx_fill.specs.FrameMaps.{FrameMap, place_count, width_at, spot, frame_end, scratch_at, pointer_word, word_in, PointsDown, Leads, Lies, Holds, HasBuilt, IsKept, Stacked, Agree, Entered, IsBlank}
 use Rattle.rgctx_fill.proofs.FrameLemmas.{by_same, Order, less, same, greater, order, inside, bounds, built_none}

@@ -1,7 +1,7 @@
 -- The frames after a write, after words that no value has changed, after a call, and after a return.
 use Rattle.std.proofs.Common.{◌≡◌, ◌≢◌, ◌⊎◌, inl, inr, ℕ, zero, suc, ◌+◌, ◌-◌, ◌<◌, ◌≤◌, Bool, true, false, ◌==◌, cond, List, [], Option, Some, None, refl, sym, ap, ◌∙◌, subst, arith, eqb-true, eq-eqb}
 use Rattle.rgctx_words.specs.Memory.{put, Only}
-use Rattle.rgctx_fill.specs.FramePlans.{IsPlan}
+use Rattle.cil_flow.specs.FramePlans.{IsPlan}
 use Rattle.cil_meaning.specs.Values.{Value}
 use Rattle.rgctx_fill.specs.FrameMaps.{FrameMap, place_count, width_at, spot, frame_end, scratch_at, HasBuilt, Holds, IsKept, Stacked, with_value, IsFree}
 

@@ -3,7 +3,7 @@ use Rattle.std.specs.Prelude.{◌≡◌, ◌≢◌, ◌⊎◌, ℕ, suc, ◌+◌
 use Rattle.rgctx_words.specs.Memory.{put}
 use Rattle.rgctx_words.specs.Frames.{frame_address, scratch_words}
 use Rattle.cil_flow.specs.declared.plan.Plan.{Plan}
-use Rattle.rgctx_fill.specs.FramePlans.{IsPlan}
+use Rattle.cil_flow.specs.FramePlans.{IsPlan}
 use Rattle.cil_meaning.specs.Values.{Pointer, Null, InFrame, InFresh, InObject, InStatic, Value, Plain, Managed}
 
 -- by level: the frame word at which a frame begins, and the plan of its places

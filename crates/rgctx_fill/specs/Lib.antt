@@ -20,7 +20,6 @@ pub mod ClaimLaws
 pub mod LeafLaws
 pub mod Predefined
 pub mod ImageCatalogues
-pub mod FramePlans
 pub mod ThreadStates
 pub mod Accesses
 pub mod MachineTurns

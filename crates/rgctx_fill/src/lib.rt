@@ -1,4 +1,5 @@
-//! The rule of the context words: what a node and an entry name, which words may stand together, and the readers.
+//! Context words: what a node and an entry name, which words may stand together, the readers and the lazy fill; and
+//! a thread's state and turn, as definitions.
 #![tactic(auto)]
 
 mod applying;

@@ -19,7 +19,7 @@ all_follow P Q xs follow all = All-from_recursion Q xs (each xs follow (recursio
     each (y ∷ ys) f h = (f.0 h.0, each ys f.1 h.1)
 
 module _ (c m : ℕ) where
-  has_variables_below-node : (head : Head) (parts : List TExpr) →
+  pub has_variables_below-node : (head : Head) (parts : List TExpr) →
       has_variables_below c m (node head parts) ≡ list_all (has_variables_below c m) parts
   has_variables_below-node head parts =
       folded-node (level_below c m) head parts ∙ list_all-map (λ is_below. is_below) (has_variables_below c m) parts

@@ -1,6 +1,7 @@
 //! Type trees: their positions, substitution for their variables, and their printed names.
 #![tactic(auto)]
 
+mod closing;
 mod copying;
 mod counting;
 mod equality;
@@ -10,6 +11,7 @@ mod substitution;
 mod tests;
 mod tree;
 
+pub use closing::is_closed;
 pub use copying::copy_all;
 pub use counting::positions;
 pub use equality::same_all;

@@ -1,5 +1,6 @@
 use crate::{
-    Head, TExpr, TNode, TooLarge, Tree, copy_all, name_of, positions, same_all, subst, subst_whole,
+    Head, TExpr, TNode, TooLarge, Tree, copy_all, is_closed, name_of, positions, same_all, subst,
+    subst_whole,
 };
 use mn_outside::{Name, Refused};
 use sqlite_items::Items;
@@ -112,6 +113,8 @@ fn puts_arguments_for_variables(rt: HostRuntime) -> Result<(), Fail> {
     let text = name_of(alloc, &whole, names.as_slice())?;
     assert_eq!(rt; text.as_slice(), b"Pair<string,int32>".as_slice());
     assert!(rt; !tree.same(&whole));
+    assert!(rt; !is_closed(&open));
+    assert!(rt; is_closed(&tree));
     Ok(())
 }
 

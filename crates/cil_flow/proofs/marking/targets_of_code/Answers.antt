@@ -1,5 +1,4 @@
-use Rattle.std.proofs.Common.{◌≡◌, ℕ, ◌<◌, length, take, get_or, false, subst, arith}
-use Rattle.cil_flow.specs.Depths.{targets_before, is_target}
+use Rattle.std.proofs.Common.{arith}
 use Rattle.cil_flow.proofs.MarkLemmas.{marks_are}
 use Rattle.cil_flow.proofs.marking.targets_of_code.Goals as goal
 

@@ -1,4 +1,4 @@
-use Rattle.std.proofs.Common.{◌≡◌, Bool, true, false}
+use Rattle.std.proofs.Common.{◌≡◌, true, false}
 use Rattle.cil_flow.specs.Regions.{begins_handler}
 use Rattle.cil_flow.proofs.PassLemmas.{depth_of_handler, depth_of_other}
 use Rattle.cil_flow.proofs.pass.depth_before.Goals as goal

@@ -1,12 +1,11 @@
-use Rattle.std.proofs.Common.{◌≡◌, ◌∙◌, ap, ◌<◌, ◌≤◌, Bool, true, false, length, slice_get, get_or, Some, arith, sym}
+use Rattle.std.proofs.Common.{◌≡◌, ◌∙◌, ap, true, false, get_or, arith, sym}
 use Rattle.cil_flow.specs.declared.control.Control.{Control}
 use Rattle.cil_flow.specs.declared.effect.Effect.{Effect}
-use Rattle.cil_flow.specs.Effects.{effect_of}
 use Rattle.cil_flow.specs.Control.{control_at, any_follower}
-use Rattle.cil_flow.specs.Depths.{depths_of, depth_left, depth_after}
+use Rattle.cil_flow.specs.Depths.{depth_left, depth_after}
 use Rattle.cil_flow.specs.Pass.{clashes}
 use Rattle.cil_flow.specs.Flow.{is_bad_step, has_enough, is_deep_enough}
-use Rattle.cil_flow.proofs.PassLemmas.{is_within, here_is, here_shallow, taken_length, cause_of_meeting}
+use Rattle.cil_flow.proofs.PassLemmas.{is_within, here_shallow, taken_length, cause_of_meeting}
 use Rattle.cil_flow.proofs.pass.judge.Goals as goal
 
 pub bounds-depth-at : goal.bounds-depth-at

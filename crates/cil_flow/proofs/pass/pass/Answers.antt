@@ -1,4 +1,4 @@
-use Rattle.std.proofs.Common.{◌≡◌, ◌∙◌, ap, sym, subst, ℕ, List, ◌+◌, ◌<◌, ◌++◌, ◌∷◌, [], Bool, true, false, length, take, slice_get, get_or, Some, None, Err, Option, Result, arith, refl}
+use Rattle.std.proofs.Common.{◌≡◌, ◌∙◌, ap, sym, subst, ℕ, List, ◌+◌, ◌<◌, true, false, length, take, slice_get, get_or, Some, None, Err, Option, Result, arith, refl}
 use Rattle.std.specs.Result.{result_err}
 use Rattle.std.proofs.lemmas.Option.{slice_get_read}
 use Rattle.mn_outside.specs.declared.outside.Refused.{Refused}
@@ -7,8 +7,8 @@ use Rattle.cil_flow.specs.declared.fault.FlowFault.{FlowFault}
 use Rattle.cil_flow.specs.declared.fault.FlowCause.{FlowCause}
 use Rattle.cil_flow.specs.declared.fault.FlowCause.TheVariants as cause
 use Rattle.cil_flow.specs.Regions.{first_bad_place}
-use Rattle.cil_flow.specs.Depths.{depths_of, depth_after}
-use Rattle.cil_flow.specs.Flow.{GivesDepths, is_at, cause_of_step, cause_at, fault_with, fault_before, first_fault}
+use Rattle.cil_flow.specs.Depths.{depths_of}
+use Rattle.cil_flow.specs.Flow.{GivesDepths, is_at, cause_of_step, fault_with, first_fault}
 use Rattle.cil_flow.proofs.PassLemmas.{taken_next, all_taken, knows_next}
 use Rattle.cil_flow.proofs.FaultLemmas.{cause_of_clause, cause_kept, fault_is, fault_next, no_fault}
 use Rattle.cil_flow.proofs.pass.pass.Goals as goal

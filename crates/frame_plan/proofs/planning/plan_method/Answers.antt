@@ -1,5 +1,5 @@
 use Rattle.std.proofs.Common.{ap, sym, ◌∙◌, subst}
-use Rattle.rgctx_fill.specs.FramePlans.{IsPlan}
+use Rattle.cil_flow.specs.FramePlans.{IsPlan}
 use Rattle.frame_plan.specs.Places.{place_widths}
 use Rattle.frame_plan.specs.Planned.{laid}
 use Rattle.frame_plan.proofs.PlaceLemmas.{planned_legal}
