@@ -1,0 +1,109 @@
+-- Each instruction of a body that passed, in a program of built forms, is one of those whose step is proved.
+use Rattle.std.proofs.Common.{◌≡◌, false, refl}
+use Rattle.il_model.specs.declared.op.Op.{Op}
+use Rattle.il_model.specs.declared.op.Op.TheVariants as op
+use Rattle.cil_verify.specs.Rows.{row_of, admits_none}
+use Rattle.cil_verify.specs.Forms.{is_unbuilt_form}
+use Rattle.cil_safety.proofs.Steps.{IsCovered, straight, call, callvirt, newobj, ret, ldfld, stfld, ldflda, ldsfld, stsfld, ldsflda, ldobj, stobj, initobj, newarr, ldlen, ldelem, stelem, box, unbox, castclass, isinst, throw, print_int32, print_int64, print_text, compare_int32, compare_int64, compare_object, exchange_int32, exchange_int64, exchange_object, add_int32, add_int64, nameof, join}
+
+-- an instruction of a built form that the forward pass admits at all
+pub covered : (i : Op) → is_unbuilt_form i ≡ false → (row_of i ≡ admits_none → ⊥) → IsCovered i
+covered op.Nop built some = straight refl refl
+covered op.Dup built some = straight refl refl
+covered op.Pop built some = straight refl refl
+covered (op.LdcI4 n) built some = straight refl refl
+covered (op.LdcI8 n) built some = straight refl refl
+covered op.Ldnull built some = straight refl refl
+covered (op.Ldstr n) built some = straight refl refl
+covered (op.Ldarg n) built some = straight refl refl
+covered (op.Ldloc n) built some = straight refl refl
+covered (op.Ldarga n) built some = straight refl refl
+covered (op.Ldloca n) built some = straight refl refl
+covered (op.Starg n) built some = straight refl refl
+covered (op.Stloc n) built some = straight refl refl
+covered op.Add built some = straight refl refl
+covered op.Sub built some = straight refl refl
+covered op.Mul built some = straight refl refl
+covered op.And built some = straight refl refl
+covered op.Or built some = straight refl refl
+covered op.Xor built some = straight refl refl
+covered op.AddOvf built some = straight refl refl
+covered op.SubOvf built some = straight refl refl
+covered op.MulOvf built some = straight refl refl
+covered op.AddOvfUn built some = straight refl refl
+covered op.SubOvfUn built some = straight refl refl
+covered op.MulOvfUn built some = straight refl refl
+covered op.Div built some = straight refl refl
+covered op.Rem built some = straight refl refl
+covered op.DivUn built some = straight refl refl
+covered op.RemUn built some = straight refl refl
+covered op.Shl built some = straight refl refl
+covered op.Shr built some = straight refl refl
+covered op.ShrUn built some = straight refl refl
+covered op.Neg built some = straight refl refl
+covered op.Not built some = straight refl refl
+covered op.ConvI4 built some = straight refl refl
+covered op.ConvI8 built some = straight refl refl
+covered op.ConvU8 built some = straight refl refl
+covered op.ConvOvfI4 built some = straight refl refl
+covered op.Ceq built some = straight refl refl
+covered op.Cgt built some = straight refl refl
+covered op.CgtUn built some = straight refl refl
+covered op.Clt built some = straight refl refl
+covered op.CltUn built some = straight refl refl
+covered (op.Br to) built some = straight refl refl
+covered (op.Brtrue to) built some = straight refl refl
+covered (op.Brfalse to) built some = straight refl refl
+covered (op.Beq to) built some = straight refl refl
+covered (op.BneUn to) built some = straight refl refl
+covered (op.Bge to) built some = straight refl refl
+covered (op.Bgt to) built some = straight refl refl
+covered (op.Ble to) built some = straight refl refl
+covered (op.Blt to) built some = straight refl refl
+covered (op.BgeUn to) built some = straight refl refl
+covered (op.BgtUn to) built some = straight refl refl
+covered (op.BleUn to) built some = straight refl refl
+covered (op.BltUn to) built some = straight refl refl
+covered (op.Switch to) built some = straight refl refl
+covered (op.Leave to) built some = absurd (cc built)
+covered (op.Call m) built some = call
+covered (op.Callvirt m) built some = callvirt
+covered (op.Constrained t m) built some = absurd (cc built)
+covered (op.Newobj m) built some = newobj
+covered op.Ret built some = ret
+covered (op.Ldfld f) built some = ldfld
+covered (op.Stfld f) built some = stfld
+covered (op.Ldflda f) built some = ldflda
+covered (op.Ldsfld f) built some = ldsfld
+covered (op.Stsfld f) built some = stsfld
+covered (op.Ldsflda f) built some = ldsflda
+covered (op.Ldobj t) built some = ldobj
+covered (op.Stobj t) built some = stobj
+covered (op.Initobj t) built some = initobj
+covered (op.Newarr t) built some = newarr
+covered op.Ldlen built some = ldlen
+covered (op.Ldelem t) built some = ldelem
+covered (op.Stelem t) built some = stelem
+covered (op.Box t) built some = box
+covered (op.UnboxAny t) built some = unbox
+covered (op.Castclass t) built some = castclass
+covered (op.Isinst t) built some = isinst
+covered op.Throw built some = throw
+covered op.WriteLineInt32 built some = print_int32
+covered op.WriteLineInt64 built some = print_int64
+covered op.WriteLineString built some = print_text
+covered op.CompareExchangeInt32 built some = compare_int32
+covered op.CompareExchangeInt64 built some = compare_int64
+covered op.CompareExchangeObject built some = compare_object
+covered op.ExchangeInt32 built some = exchange_int32
+covered op.ExchangeInt64 built some = exchange_int64
+covered op.ExchangeObject built some = exchange_object
+covered op.AddInt32 built some = add_int32
+covered op.AddInt64 built some = add_int64
+covered (op.NameOf t) built some = nameof
+covered op.Start built some = absurd (cc built)
+covered op.Join built some = join
+covered op.Endfinally built some = absurd (some refl)
+covered op.Rethrow built some = absurd (some refl)
+covered (op.Ldftn m) built some = absurd (some refl)
+covered (op.Ldvirtftn m) built some = absurd (some refl)
