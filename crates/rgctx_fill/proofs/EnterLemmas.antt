@@ -74,6 +74,23 @@ module _ {g h : FrameMap} {top : ℕ} (a : Agree g h top) where
       lie = λ j lt. ap (λ i. mem' (i + j)) (scratch_same l le) ∙ still j (let f = built.fits in omega arith) ∙ built.lie j lt;
     }
 
+-- the same frames under another map, which agrees up to the current one
+pub remap : {g h : FrameMap} {head : ℕ → ℕ → ℕ} {mem : ℕ → ℕ} {end top : ℕ} {value : ℕ → ℕ → Option Value} {fresh : ℕ → List ℕ} → Agree g h top → Stacked g head mem end top value fresh → Stacked h head mem end top value fresh
+remap {g = g} {h = h} {mem = mem} {top = top} {value = value} {fresh = fresh} a st = record {
+  plans = λ l le. subst IsPlan (sym (a.plan l le)) (st.plans l le);
+  next = λ l lt.
+      let x = a.base l (omega arith) in
+      let y = a.base (suc l) (omega arith) in
+      let z = st.next l lt in
+      let f = ap (λ (k : Plan). k.frame) (a.plan l (omega arith)) in
+      omega arith;
+  ends = let x = a.base top (omega arith) in let z = st.ends in let f = ap (λ (k : Plan). k.frame) (a.plan top (omega arith)) in omega arith;
+  heads = λ l k le kept. ap (λ b. mem (b + k)) (a.base l le) ∙ st.heads l k le kept;
+  held = λ l p le pp. holds_over a mem mem l p (value l p) le (λ j lt. refl) (st.held l p le (let c = count_same a l le in omega arith));
+  built = λ l le. built_over a mem mem l (fresh l) le (λ j lt. refl) (st.built l le);
+  clear = st.clear;
+}
+
 -- The call -----------------------------------------------------------------
 
 module _ {g h : FrameMap} {head head' : ℕ → ℕ → ℕ} {mem mem' : ℕ → ℕ} {end end' top : ℕ} {value : ℕ → ℕ → Option Value} {fresh : ℕ → List ℕ}

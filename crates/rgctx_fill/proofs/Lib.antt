@@ -11,6 +11,7 @@ pub mod PlanLemmas
 pub mod TurnLemmas
 pub mod PartLemmas
 pub mod StepLemmas
+pub mod BestLemmas
 pub mod StartLemmas
 pub mod InterleavedLaws
 pub mod LoopLemmas

@@ -1,6 +1,6 @@
 -- What is planned for each kind of entry, and that a fill with such a plan is ready.
 use Rattle.std.proofs.Common.{◌≡◌, ◌≢◌, ℕ, suc, ◌+◌, ◌*◌, ◌^◌, ◌<◌, ◌≤◌, Bool, true, false, List, [], ◌∷◌, ◌++◌, length, map, Option, Some, None, if◌then◌else◌, refl, sym, ap, ◌∙◌, subst, arith}
-use Rattle.std.specs.Prelude.{slice_get, nat_lt, is_none, option_map}
+use Rattle.std.specs.Prelude.{slice_get, nat_lt, is_none, option_map, unwrap_or}
 use Rattle.std.specs.List.{AllByRecursion}
 use Rattle.std.proofs.lemmas.Bool.Decides.{nat_tests}
 use Rattle.std.proofs.lemmas.List.Elements.{All-from_recursion, recursion_from_All}
@@ -34,6 +34,8 @@ use Rattle.rgctx_fill.specs.Turns.{IsAt, node_for, node_key, begun}
 use Rattle.rgctx_fill.specs.Plans.{Spells, AreSpelled, IsPlan}
 use Rattle.rgctx_fill.specs.Ready.{Knows, IsReady}
 use Rattle.rgctx_fill.specs.Steps.{type_steps, method_steps}
+use Rattle.rgctx_fill.specs.Bases.{slot_base, base_named}
+use Rattle.rgctx_fill.proofs.BestLemmas.{entry-word-only}
 use Rattle.rgctx_fill.specs.Starting.{IsWholeType, IsWholeMethod, IsWhole, IsNameable, IsFillable, limit_named, steps_of_slot, steps_named, IsPlanOf, IsEntryOf, IsBegun, IsRefused}
 use Rattle.rgctx_fill.proofs.PartLemmas.{admitted-limit}
 use Rattle.rgctx_fill.proofs.StepLemmas.{Ends, type-plan, method-plan}
@@ -100,6 +102,7 @@ module _ (cat : CatData) (spells : NodeTree) where
       let e : Ends cat.program nameable (type_steps t 0) (tree.Kind t) = type-plan cat.program nameable t (whole-admitted cat.program t whole none) in
       record {
         order = refl;
+        base_is = refl;
         trees = e.trees;
         plan = e.plan;
         value = λ at numbers count are.
@@ -119,6 +122,7 @@ module _ (cat : CatData) (spells : NodeTree) where
       let e : Ends cat.program nameable (method_steps m) (tree.Method m) = method-plan cat.program nameable m (method-admitted cat.program m whole none) in
       record {
         order = refl;
+        base_is = ap (λ w. 65536 * w) (entry-word-only cat m word serves);
         trees = e.trees;
         plan = e.plan;
         value = λ at numbers count are. method_value m word serves at (node_for numbers (length numbers)) (last_spells (spelled at) e.trees numbers (method_steps m) e.k (tree.Method m) e.count e.last count are);
@@ -130,6 +134,7 @@ module _ (cat : CatData) (spells : NodeTree) where
       → IsPlanOf cat spells (entry.Slot number) (method_steps m) (65536 * word)
   slot-plan number m word is p = record {
     order = p.order ∙ ap steps_of_slot (sym is);
+    base_is = p.base_is ∙ ap (slot_base cat) (sym is);
     trees = p.trees;
     plan = p.plan;
     value = λ at numbers count are. subst (λ x. IsSlotValue cat at x (65536 * word + node_for numbers (length numbers))) (sym is) (p.value at numbers count are);
@@ -137,9 +142,10 @@ module _ (cat : CatData) (spells : NodeTree) where
     small = p.small;
   }
 
-  pub number-plan : (e : Entry) (base : ℕ) → steps_named cat.program spells e ≡ [] → 0 < base → base < 2 ^ 63 → ((at : ℕ → ℕ) → IsValue cat at spells e base) → IsPlanOf cat spells e [] base
-  number-plan e base none positive small value = record {
+  pub number-plan : (e : Entry) (base : ℕ) → steps_named cat.program spells e ≡ [] → base ≡ base_named cat spells e → 0 < base → base < 2 ^ 63 → ((at : ℕ → ℕ) → IsValue cat at spells e base) → IsPlanOf cat spells e [] base
+  number-plan e base none base_is positive small value = record {
     order = sym none;
+    base_is = base_is;
     trees = [];
     plan = no_plan;
     value = λ at numbers count are.
@@ -164,7 +170,7 @@ module _ (cat : CatData) (spells : NodeTree) where
   above_none (Some n) v h = let e : n + 1 ≡ v = cc in omega arith
 
   pub offset-plan : (t : TExpr) (place value : ℕ) → offset_value cat.program t place ≡ Some value → value < 2 ^ 63 → IsPlanOf cat spells (entry.Offset t place) [] value
-  offset-plan t place value is small = number-plan cat spells (entry.Offset t place) value refl (above_none (offset_of cat.program t place) value is) small (λ at. is)
+  offset-plan t place value is small = number-plan cat spells (entry.Offset t place) value refl (sym (ap (λ o. unwrap_or o 0) is)) (above_none (offset_of cat.program t place) value is) small (λ at. is)
 
 -- ---- the start
 
@@ -243,6 +249,7 @@ begun-is cat held node number t e steps base is item none p ready = record {
   node_is = refl;
   entry_is = refl;
   steps = p.order ∙ ap (λ s. steps_named cat.program s (entry_at t e)) (sym is);
+  base = p.base_is ∙ ap (λ s. base_named cat s (entry_at t e)) (sym is);
   found = refl;
   stage = refl;
   ready = ready;

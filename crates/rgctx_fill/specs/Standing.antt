@@ -1,5 +1,5 @@
 -- Where a process and a thread stand together: the thread's frames hold what the process's frames do, and its code is that of the process's instruction. This project's own.
-use Rattle.std.specs.Prelude.{◌≡◌, ℕ, suc, ◌+◌, ◌^◌, ◌<◌, ◌≤◌, ◌==◌, if◌then◌else◌, List, [], ◌∷◌, ◌++◌, length, reverse, slice_get, slice_index, Option, Some, None}
+use Rattle.std.specs.Prelude.{◌≡◌, ℕ, suc, ◌+◌, ◌<◌, ◌≤◌, ◌==◌, Bool, true, if◌then◌else◌, List, [], ◌∷◌, ◌++◌, length, reverse, slice_get, slice_index, Option, Some, None}
 use Rattle.type_tree.specs.declared.tree.TExpr.{TExpr}
 use Rattle.il_model.specs.declared.key.BodyRow.{BodyRow}
 use Rattle.il_model.specs.declared.layout.MethodTree.{MethodTree}
@@ -14,7 +14,7 @@ use Rattle.store_object.specs.declared.request.Request.{Request}
 use Rattle.store_object.specs.declared.reply.Reply.{Reply}
 use Rattle.cil_meaning.specs.Values.{Value}
 use Rattle.cil_meaning.specs.Naming.{Mention, put_type}
-use Rattle.cil_meaning.specs.Frames.{Frame, Places, Frames, Result, places_at}
+use Rattle.cil_meaning.specs.Frames.{Awaited, Nothing, Result, Object, Built, Frame, Places, Frames, places_at}
 use Rattle.cil_meaning.specs.Replies.{Left}
 use Rattle.cil_meaning.specs.Meaning.{meaning}
 use Rattle.cil_flow.specs.declared.plan.Plan.{Plan}
@@ -27,13 +27,15 @@ use Rattle.rgctx_fill.specs.Spelled.{spelled}
 use Rattle.rgctx_fill.specs.declared.doing.Doing.TheVariants.{Runs}
 use Rattle.rgctx_fill.specs.ThreadStates.{ImageData, ThreadData}
 use Rattle.rgctx_fill.specs.ThreadTurns.{want}
+use Rattle.rgctx_fill.specs.Constructed.{IsSized, PutsBuilt}
 use Rattle.rgctx_fill.specs.FrameMaps.{FrameMap, place_count, width_at, spot, Stacked}
 
 -- What is known of the compiled bodies, by the number of their row: the plan of their frames, and the address of the code of
--- each instruction.
+-- each instruction. And whether the interpreter may run frames as well.
 pub record Compiled : Type 0 where
   pub plan : ℕ → Plan
   pub pc : ℕ → ℕ → ℕ
+  pub interprets : Bool
 
 -- What runs a frame: the body of a row, or the interpreter, over a frame of this plan.
 pub data Runner : Type 0 where
@@ -44,10 +46,10 @@ abbrev pub plan_of : Compiled → Runner → Plan
 plan_of c (ByRow row) = c.plan row
 plan_of c (ByInterpreter plan) = plan
 
--- where a frame goes on at an instruction: 0 where the interpreter does
-abbrev pub pc_of : Compiled → Runner → ℕ → ℕ
-pc_of c (ByRow row) at = c.pc row at
-pc_of c (ByInterpreter plan) at = 0
+-- where a frame goes on at an instruction: at its code, or at 0 where the interpreter goes on
+abbrev pub GoesOnAt : Compiled → Runner → (at back : ℕ) → Type 0
+GoesOnAt c (ByRow row) at back = (back ≡ c.pc row at) × (0 < back)
+GoesOnAt c (ByInterpreter plan) at back = back ≡ 0
 
 -- What the process's frames hold, by level and place ------------------------
 
@@ -65,12 +67,35 @@ value_in (Some f) (Some p) n = slice_get (p.held ++ reverse f.stack) n
 abbrev pub value_at : Frames → ℕ → ℕ → Option Value
 value_at fs l = value_in (level_of fs.frames l) (places_at fs.places l)
 
-abbrev pub fresh_in : Option Places → List ℕ
-fresh_in None = []
-fresh_in (Some p) = p.fresh
+-- What stands in the scratch words of a frame: the number of the object whose constructor was called, or the words of the struct
+-- that is being built.
+abbrev pub made_words : Awaited → (fresh : List ℕ) → List ℕ
+made_words Nothing fresh = fresh
+made_words Result fresh = fresh
+made_words (Object o) fresh = o ∷ []
+made_words Built fresh = fresh
+
+abbrev pub fresh_in : Option Frame → Option Places → List ℕ
+fresh_in None places = []
+fresh_in (Some f) None = []
+fresh_in (Some f) (Some p) = made_words f.awaits p.fresh
 
 abbrev pub fresh_at : Frames → ℕ → List ℕ
-fresh_at fs l = fresh_in (places_at fs.places l)
+fresh_at fs l = fresh_in (level_of fs.frames l) (places_at fs.places l)
+
+-- whether a frame waits for a constructor
+abbrev pub IsMaking : Awaited → Type 0
+IsMaking Nothing = ⊥
+IsMaking Result = ⊥
+IsMaking (Object o) = Unit {0}
+IsMaking Built = Unit {0}
+
+-- a struct's words stand in a frame only as long as it is built there
+abbrev pub AreFresh : Awaited → List ℕ → Type 0
+AreFresh Nothing fresh = fresh ≡ []
+AreFresh Result fresh = fresh ≡ []
+AreFresh (Object o) fresh = fresh ≡ []
+AreFresh Built fresh = Unit {0}
 
 -- the place that takes a result: the next one of the stack
 abbrev pub result_place : Frame → Places → ℕ
@@ -94,21 +119,38 @@ pub record IsInterpreted (k : Plan) : Type 0 where
   pub places : (p : ℕ) → p < length k.offsets → (slice_index k.offsets p ≡ place_offset p) × (slice_index k.widths p ≡ place_words)
   pub scratch : k.scratch ≡ scratch_offset (length k.offsets)
 
-abbrev pub IsRunBy : ImageData → Runner → MethodTree → Type 0
-IsRunBy im (ByRow row) m = IsServed im row m
-IsRunBy im (ByInterpreter plan) m = IsInterpreted plan
+abbrev pub IsRunBy : ImageData → Compiled → Runner → MethodTree → Type 0
+IsRunBy im c (ByRow row) m = IsServed im row m
+IsRunBy im c (ByInterpreter plan) m = (c.interprets ≡ true) × IsInterpreted plan
 
 -- a place of the caller takes the result of this type
 pub record TakesResult (im : ImageData) (g : FrameMap) (l place : ℕ) (t : TExpr) : Type 0 where
   pub inside : place < place_count g l
   pub fits : words_of im.cat.program t ≤ width_at g l place
 
+-- The return address of a constructor lies within the code of the frame's newobj. From there on that code puts what was made into the
+-- place of the result, which has the room, and comes to the next instruction.
+pub record IsWithinNew (im : ImageData) (k : Plan) (next place many back : ℕ) : Type 0 where
+  pub inside : place < length k.offsets
+  pub fits : many ≤ slice_index k.widths place
+  pub code : 0 < back
+  pub puts : PutsBuilt im k place many back next
+
+abbrev pub FinishesNew : ImageData → Compiled → Runner → Frame → Places → (back : ℕ) → Type 0
+FinishesNew im c (ByRow row) f p back = IsWithinNew im (c.plan row) (c.pc row (suc f.at)) (result_place f p) (length (made_words f.awaits p.fresh)) back
+FinishesNew im c (ByInterpreter plan) f p back = back ≡ 0
+
 -- What the header words of a level say, `head l k` being word k: the caller, where it goes on, the method's node, the place of the
--- result where there is one, the instruction at which it waits, and its length.
+-- result where there is one, the instruction at which it waits, and its length. The first frame's method and a constructor have no
+-- result.
 pub record Headed (im : ImageData) (c : Compiled) (runner : ℕ → Runner) (node : ℕ → ℕ) (g : FrameMap) (fs : Frames) (head : ℕ → ℕ → ℕ) (top : ℕ) : Type 0 where
   pub first : head 0 caller_word ≡ 0
+  pub ends : (f : Frame) (d : MethodDef) → level_of fs.frames 0 ≡ Some f → method_at im.cat.program f.method.method ≡ Some d → d.result ≡ None
   pub caller : (l : ℕ) → l < top → head (suc l) caller_word ≡ frame_address (g.base l)
-  pub back : (l : ℕ) (f : Frame) → l < top → level_of fs.frames l ≡ Some f → head (suc l) back_word ≡ pc_of c (runner l) (suc f.at)
+  pub back : (l : ℕ) (f : Frame) → l < top → level_of fs.frames l ≡ Some f → f.awaits ≡ Result → GoesOnAt c (runner l) (suc f.at) (head (suc l) back_word)
+  pub made : (l : ℕ) (f above : Frame) (p : Places) (d : MethodDef) → l < top → level_of fs.frames l ≡ Some f → places_at fs.places l ≡ Some p →
+      level_of fs.frames (suc l) ≡ Some above → IsMaking f.awaits → method_at im.cat.program above.method.method ≡ Some d →
+      (d.result ≡ None) × FinishesNew im c (runner l) f p (head (suc l) back_word)
   pub method : (l : ℕ) → l ≤ top → head l method_word ≡ node l
   pub result : (l : ℕ) (f above : Frame) (p : Places) (d : MethodDef) (t : TExpr) → l < top → level_of fs.frames l ≡ Some f → places_at fs.places l ≡ Some p →
       level_of fs.frames (suc l) ≡ Some above → f.awaits ≡ Result → method_at im.cat.program above.method.method ≡ Some d → d.result ≡ Some t →
@@ -116,19 +158,14 @@ pub record Headed (im : ImageData) (c : Compiled) (runner : ℕ → Runner) (nod
   pub instr : (l : ℕ) (f : Frame) → l < top → level_of fs.frames l ≡ Some f → head l instr_word ≡ f.at
   pub size : (l : ℕ) → l ≤ top → head l length_word ≡ (g.plan l).frame
 
--- words and registers have 64 bits
-pub record IsSized (s : ThreadData) : Type 0 where
-  pub registers : length s.core.x ≡ 32
-  pub register : (r : ℕ) → register_of s.core r < 2 ^ 64
-  pub word : (i : ℕ) → mem_of s.stack i < 2 ^ 64
-
 -- what holds of the levels beside memory
 pub record Around (im : ImageData) (w : ℕ → ℕ) (c : Compiled) (runner : ℕ → Runner) (node : ℕ → ℕ) (fs : Frames) (s : ThreadData) (top : ℕ) : Type 0 where
   pub frames : length fs.frames ≡ suc top
   pub places : length fs.places ≡ suc top
   pub bases : length s.stack.bases ≡ suc top
-  pub bodies : (l : ℕ) (f : Frame) → level_of fs.frames l ≡ Some f → IsRunBy im (runner l) f.method
+  pub bodies : (l : ℕ) (f : Frame) → level_of fs.frames l ≡ Some f → IsRunBy im c (runner l) f.method
   pub nodes : (l : ℕ) (f : Frame) → level_of fs.frames l ≡ Some f → (node l < node_count) × (spelled w (node l) ≡ tree.Method f.method)
+  pub fresh : (l : ℕ) (f : Frame) (p : Places) → level_of fs.frames l ≡ Some f → places_at fs.places l ≡ Some p → AreFresh f.awaits p.fresh
   pub copy : register_of s.core 8 ≡ frame_address (base_of s.stack top)
   pub stack : IsStack s.stack
   pub sized : IsSized s
@@ -142,6 +179,7 @@ pub record Together (im : ImageData) (w : ℕ → ℕ) (c : Compiled) (fs : Fram
   pub around : Around im w c runner node fs s top
   pub headed : Headed im c runner node (map_of c runner s.stack) fs head top
   pub stacked : Stacked (map_of c runner s.stack) head (mem_of s.stack) (length s.stack.words) top (value_at fs) (fresh_at fs)
+  pub calm : (f : Frame) → level_of fs.frames top ≡ Some f → f.awaits ≡ Nothing
   pub goes : s.doing ≡ Runs
   pub row : ℕ
   pub compiled : runner top ≡ ByRow row

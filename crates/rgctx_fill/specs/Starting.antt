@@ -28,6 +28,7 @@ use Rattle.rgctx_fill.specs.NamedValues.{IsValue, entry_at, method_in_slot, offs
 use Rattle.rgctx_fill.specs.Turns.{FillData, node_for, first_stage}
 use Rattle.rgctx_fill.specs.Plans.{AreSpelled, IsPlan}
 use Rattle.rgctx_fill.specs.Steps.{type_steps, method_steps}
+use Rattle.rgctx_fill.specs.Bases.{base_named}
 use Rattle.rgctx_fill.specs.Ready.{IsReady}
 
 -- ---- what is asked of a catalogue
@@ -110,6 +111,7 @@ steps_named program spells (entry.Slot number) = steps_of_slot (method_in_slot p
 -- with nodes for these steps, the number of the last and the base are the value of the entry
 pub record IsPlanOf (cat : CatData) (spells : NodeTree) (e : Entry) (steps : List NodeStep) (base : ℕ) : Type 0 where
   pub order : steps ≡ steps_named cat.program spells e
+  pub base_is : base ≡ base_named cat spells e
   pub trees : List NodeTree
   pub plan : IsPlan cat.program steps trees
   pub value : (at : ℕ → ℕ) (numbers : List ℕ) → length numbers ≡ length steps → AreSpelled (spelled at) trees numbers → IsValue cat at spells e (base + node_for numbers (length numbers))
@@ -137,6 +139,7 @@ pub record IsBegun (cat : CatData) (held : ℕ → ℕ) (node number : ℕ) (f :
   pub node_is : f.node ≡ node
   pub entry_is : f.entry ≡ number
   pub steps : f.steps ≡ steps_named cat.program (spelled held node) entry
+  pub base : f.base ≡ base_named cat (spelled held node) entry
   pub found : f.found ≡ []
   pub stage : f.stage ≡ first_stage f.steps 0
   pub ready : IsReady cat held f

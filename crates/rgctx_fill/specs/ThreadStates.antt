@@ -7,15 +7,21 @@ use Rattle.interaction.specs.Thread.{Want}
 use Rattle.interaction.specs.Thread as thread
 use Rattle.store_object.specs.declared.request.Request.{Request}
 use Rattle.store_object.specs.declared.reply.Reply.{Reply}
-use Rattle.rgctx_template.specs.Catalogue.{CatData}
+use Rattle.rgctx_template.specs.Catalogue.{CatData, data_of}
 use Rattle.rgctx_words.specs.Stacks.{StackWords}
 use Rattle.rv_machine.specs.declared.registers.Core.{Core}
 use Rattle.rgctx_fill.specs.declared.doing.Doing.{Doing}
+use Rattle.rgctx_fill.specs.declared.image.FrameCount.{FrameCount}
+use Rattle.rgctx_fill.specs.declared.image.ImageView.{ImageView}
 
--- what turns are taken over: a catalogue and the code words of its bodies
+-- what turns are taken over: a catalogue, the code words of its bodies, and the counts for an interpreted frame of each method, by its number
 pub record ImageData : Type 0 where
   pub cat : CatData
   pub code : List ℕ
+  pub frames : List FrameCount
+
+abbrev pub image_of : ImageView → ImageData
+image_of view = record { cat = data_of view.cat; code = view.code.now; frames = view.frames.now }
 
 -- a thread's core, its frames, and who goes on
 pub record ThreadData : Type 0 where

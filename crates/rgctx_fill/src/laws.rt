@@ -1,4 +1,4 @@
-//! What the layers above may use of nodes, rows and fills: two readers, the laws of `proofs/NodeLaws.antt` and
+//! What the layers above may use of nodes, rows and fills: the readers, the laws of `proofs/NodeLaws.antt` and
 //! `proofs/Opening.antt`, and the law on fills. No crate above takes a node word apart.
 ghost use Rattle.std.specs.Prelude.{◌≡◌, ℕ, List, Option, Some, true, slice_get};
 ghost use Rattle.rgctx_words.specs.Held.{Grows};
@@ -13,7 +13,7 @@ ghost use Rattle.rgctx_fill.specs.ImageCatalogues.{IsImageCatalogue};
 ghost use Rattle.rgctx_fill.specs.Interleaved.{Shared, interleaved, IsTurned, AreUnderWay};
 
 pub use crate::reading::node_tree;
-pub use crate::templating::node_template;
+pub use crate::templating::{node_template, tree_template};
 
 /// All fills of one entry answer one value. `held` says it of fills that have answered, by whatever each holds of
 /// words that fit; `one` of fills that take their turns on the same words in any order, which stay under way by

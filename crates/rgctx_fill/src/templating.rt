@@ -51,8 +51,8 @@ pub fn node_template<W: Words<Fits>>(
     Ok(NodeTemplate::Listed(entries))
 }
 
-// The template of what a node spells.
-pub(crate) fn tree_template(
+/// The template of what a node spells, by what was read of it.
+pub fn tree_template(
     alloc: Global,
     cat: &Catalogue,
     tree: &NodeTree,
