@@ -1,0 +1,14 @@
+mod TreeLemmas
+mod PointerLemmas
+mod ReturnLemmas
+mod AdmittedLemmas
+mod WidthLemmas
+mod CallLemmas
+mod FillLemmas
+mod LeadLemmas
+mod ServiceLemmas
+mod ReplyLemmas
+mod QuietLemmas
+mod PairLemmas
+mod SpelledLemmas
+mod SlotLemmas

@@ -1,0 +1,9 @@
+pub mod Readings
+pub mod Numbers
+pub mod Targets
+pub mod Requests
+pub mod Refusals
+pub mod Resuming
+pub mod Notes
+pub mod Replies
+pub mod GoingOn
