@@ -1,5 +1,5 @@
 -- The copy of arguments at a body's entry: its code carries the thread to instruction 0.
-use Rattle.std.proofs.Common.{◌≡◌, ◌⊎◌, inl, inr, ℕ, zero, suc, ◌+◌, ◌*◌, ◌^◌, ◌<◌, ◌≤◌, ◌==◌, ◌&&◌, nat_lt, nat_le, Bool, true, false, cond, List, [], ◌∷◌, ◌++◌, length, slice_index, Option, Some, None, refl, sym, ap, ap₂, ◌∙◌, subst, arith, eqb-true, eq-eqb}
+use Rattle.std.proofs.Common.{◌≡◌, ◌⊎◌, inl, inr, ℕ, zero, suc, ◌+◌, ◌*◌, ◌^◌, ◌<◌, ◌≤◌, ◌==◌, ◌&&◌, nat_lt, nat_le, Bool, true, false, cond, List, [], ◌∷◌, length, slice_index, Option, Some, None, refl, sym, ap, ap₂, ◌∙◌, subst, arith, eqb-true, eq-eqb}
 use Rattle.std.proofs.lemmas.Bool.Decides.{nat_tests}
 use Rattle.std.proofs.lemmas.List.{length-append}
 use Rattle.cil_flow.specs.declared.plan.Plan.{Plan}
@@ -21,16 +21,14 @@ use Rattle.rgctx_fill.specs.Standing.{Compiled, plan_of, value_at, fresh_at, map
 use Rattle.rgctx_fill.proofs.FrameLemmas.{bounds, inside, write, reframe}
 use Rattle.rgctx_fill.proofs.MachineLemmas.{Stands, stands_front, stands_back, run_pc}
 use Rattle.rv_codegen.specs.Carried.{StandFrom, code_address, IsBodyOf}
-use Rattle.rv_codegen.specs.PlainItems.{BodyData, argument_count, offset_of, width_of, adapts, take_words, copies_arguments, entry_items}
-use Rattle.rv_codegen.specs.Entering.{adapted, forgets, IsEntering, Copies, EntryIsCarried}
+use Rattle.rv_codegen.specs.PlainItems.{BodyData, argument_count, offset_of, width_of, taken_argument, copies_arguments, entry_items}
+use Rattle.rv_codegen.specs.Entering.{adapted, argument_words, forgets, IsEntering, Copies, EntryIsCarried}
 use Rattle.rv_codegen.proofs.StraightLemmas.{Set, InFrame, load_by}
 use Rattle.rv_codegen.proofs.ItemLemmas.{AreRows, rows_both, words_plain, plain_items_stand, stand_within}
 use Rattle.rv_codegen.proofs.FormLemmas.{run_doing, stack_kept, map_kept}
 use Rattle.rv_codegen.proofs.GiveLemmas.{word_address}
 use Rattle.rv_codegen.proofs.WalkLemmas.{walk_then, run_walk}
-use Rattle.rv_codegen.proofs.EntryLemmas.{takes_rows, one_short, Took, takes}
-use Rattle.rv_codegen.specs.FrameWords.{stores_word}
-use Rattle.rv_codegen.proofs.PlanLemmas.{all_narrow}
+use Rattle.rv_codegen.proofs.LoopLemmas.{Taken, takes_argument, taken_rows, taken_short}
 
 -- What is forgotten ------------------------------------------------------------
 
@@ -127,19 +125,19 @@ module _ (b : BodyData) (im : ImageData) (c : Compiled) (row from : ℕ) (places
     kept : (i : ℕ) → i < base → mem_of u.stack i ≡ mem_of s.stack i
     holds : Holding (mem_of u.stack) k
 
-  record Went (u : ThreadData) (is : List Instr) (k : ℕ) : Type 0 where
+  record Went (u : ThreadData) (is : List Instr) (k most : ℕ) : Type 0 where
     t : ThreadData
     turns : ℕ
-    quick : turns ≤ length is
+    quick : turns ≤ most
     walk : Walk im turns u t
     pc : t.core.pc ≡ u.core.pc + 4 * length is
     copied : Copied k t
 
   abbrev one_code : ℕ → List Instr
-  one_code k = rv.Ld 5 12 (8 * k) ∷ take_words b (adapts b k) (width_of b k) 0 (offset_of b k)
+  one_code k = rv.Ld 5 12 (8 * k) ∷ taken_argument b k
 
   -- one argument
-  one_copied : (u : ThreadData) (k : ℕ) → Copied k u → k < last → u.core.pc + 4 < 2 ^ 40 → Stands im u.core.pc (one_code k) → Went u (one_code k) (k + 1)
+  one_copied : (u : ThreadData) (k : ℕ) → Copied k u → k < last → u.core.pc + 4 < 2 ^ 40 → Stands im u.core.pc (one_code k) → Went u (one_code k) (k + 1) (4 + 12 * width_of b k)
   one_copied u k d low pc st =
       let g = place k low in
       let g1 = g.high in
@@ -149,7 +147,7 @@ module _ (b : BodyData) (im : ImageData) (c : Compiled) (row from : ℕ) (places
       let n = d.count in
       then_take (load_by u d.sized (omega arith) 5 12 (8 * k) (e.list + k) (word_address e.list (register_of u.core 12) k (d.twelve ∙ e.listed_at) (omega arith) (omega arith)) (omega arith) refl (omega arith))
     where
-      then_take : Set u (rv.Ld 5 12 (8 * k) ∷ []) 5 (mem_of u.stack (e.list + k)) → Went u (one_code k) (k + 1)
+      then_take : Set u (rv.Ld 5 12 (8 * k) ∷ []) 5 (mem_of u.stack (e.list + k)) → Went u (one_code k) (k + 1) (4 + 12 * width_of b k)
       then_take x =
           let g = place k low in
           let g1 = g.high in
@@ -164,10 +162,10 @@ module _ (b : BodyData) (im : ImageData) (c : Compiled) (row from : ℕ) (places
           let count : length x.t.stack.words ≡ length s.stack.words = ap (λ (q : StackWords). length q.words) x.stack ∙ d.count in
           let five : register_of x.t.core 5 ≡ frame_address (e.address k) = x.value ∙ d.kept (e.list + k) (omega arith) ∙ e.listed k low in
           let f : InFrame x.t base = record { copy = x.others 8 (λ z. omega (arith, z)) (λ z. omega (arith, z)) ∙ d.eight ∙ e.around.copy; small = omega arith; sized = x.sized } in
-          build x (takes b im k (e.address k) f (run_doing x.run ∙ d.goes) five (width_of b k) 0 (offset_of b k) (omega arith) (omega arith) (omega arith) (omega arith) (omega arith)
-          (subst (λ n. Stands im n (take_words b (adapts b k) (width_of b k) 0 (offset_of b k))) (sym p) st.1))
+          build x (takes_argument b im k (e.address k) f (run_doing x.run ∙ d.goes) five (omega arith) (omega arith) (omega arith) (omega arith) (omega arith)
+          (subst (λ n. Stands im n (taken_argument b k)) (sym p) st.1))
         where
-          build : (x : Set u (rv.Ld 5 12 (8 * k) ∷ []) 5 (mem_of u.stack (e.list + k))) → Took b im k x.t (take_words b (adapts b k) (width_of b k) 0 (offset_of b k)) (e.address k + 0) (base + offset_of b k) (width_of b k) → Went u (one_code k) (k + 1)
+          build : (x : Set u (rv.Ld 5 12 (8 * k) ∷ []) 5 (mem_of u.stack (e.list + k))) → Taken b im k x.t (taken_argument b k) (e.address k) (base + offset_of b k) (width_of b k) (3 + 12 * width_of b k) → Went u (one_code k) (k + 1) (4 + 12 * width_of b k)
           build x y =
               let p = run_pc x.run in
               let p' = y.pc in
@@ -179,8 +177,8 @@ module _ (b : BodyData) (im : ImageData) (c : Compiled) (row from : ℕ) (places
                 walk = walk_then im (run_walk im x.run d.goes (st.0, tt)) y.walk;
                 pc = omega arith;
                 copied = record {
-                  eight = y.others 8 (λ z. omega (arith, z)) (λ z. omega (arith, z)) ∙ x.others 8 (λ z. omega (arith, z)) (λ z. omega (arith, z)) ∙ d.eight;
-                  twelve = y.others 12 (λ z. omega (arith, z)) (λ z. omega (arith, z)) ∙ x.others 12 (λ z. omega (arith, z)) (λ z. omega (arith, z)) ∙ d.twelve;
+                  eight = y.eight ∙ x.others 8 (λ z. omega (arith, z)) (λ z. omega (arith, z)) ∙ d.eight;
+                  twelve = y.twelve ∙ x.others 12 (λ z. omega (arith, z)) (λ z. omega (arith, z)) ∙ d.twelve;
                   bases = y.bases ∙ ap (λ (q : StackWords). q.bases) x.stack ∙ d.bases;
                   count = y.count ∙ ap (λ (q : StackWords). length q.words) x.stack ∙ d.count;
                   goes = y.doing ∙ run_doing x.run ∙ d.goes;
@@ -208,32 +206,30 @@ module _ (b : BodyData) (im : ImageData) (c : Compiled) (row from : ℕ) (places
                   the_word j v is lt =
                       let fits = e.fits k v low is in
                       let below = e.below k low in
-                      let z : e.address k + 0 + j ≡ e.address k + j = omega arith in
                       ap (λ n. mem_of y.t.stack (n + j)) (place k low).at
                       ∙ y.words j (omega arith)
-                      ∙ ap (λ (q : StackWords). adapted b k (mem_of q (e.address k + 0 + j))) x.stack
-                      ∙ ap (λ n. adapted b k (mem_of u.stack n)) z
+                      ∙ ap (λ (q : StackWords). adapted b k (mem_of q (e.address k + j))) x.stack
                       ∙ ap (adapted b k) (d.kept (e.address k + j) (omega arith))
                       ∙ e.words k j v low is lt
 
   -- so many arguments from one on
-  all_copied : (n k : ℕ) (u : ThreadData) → Copied k u → k + n ≤ last → (0 < length (copies_arguments b n k) → u.core.pc + 4 * length (copies_arguments b n k) < 2 ^ 40) → Stands im u.core.pc (copies_arguments b n k) → Went u (copies_arguments b n k) (k + n)
+  all_copied : (n k : ℕ) (u : ThreadData) → Copied k u → k + n ≤ last → (0 < length (copies_arguments b n k) → u.core.pc + 4 * length (copies_arguments b n k) < 2 ^ 40) → Stands im u.core.pc (copies_arguments b n k) → Went u (copies_arguments b n k) (k + n) (4 * n + 12 * argument_words b n k)
   all_copied zero k u d le pc st = record { t = u; turns = 0; quick = omega arith; walk = stays; pc = omega arith; copied = let z : k ≡ k + 0 = omega arith in subst (λ n. Copied n u) z d }
   all_copied (suc n) k u d le pc st =
       let long = length-append (one_code k) (copies_arguments b n (k + 1)) in
       let some = pc (omega arith) in
       then_rest (one_copied u k d (omega arith) (omega arith) (stands_front im u.core.pc (one_code k) (copies_arguments b n (k + 1)) st)) (λ t d' le' pc' st'. all_copied n (k + 1) t d' le' pc' st')
     where
-      then_rest : Went u (one_code k) (k + 1) →
-          ((t : ThreadData) → Copied (k + 1) t → k + 1 + n ≤ last → (0 < length (copies_arguments b n (k + 1)) → t.core.pc + 4 * length (copies_arguments b n (k + 1)) < 2 ^ 40) → Stands im t.core.pc (copies_arguments b n (k + 1)) → Went t (copies_arguments b n (k + 1)) (k + 1 + n)) →
-          Went u (copies_arguments b (suc n) k) (k + suc n)
+      then_rest : Went u (one_code k) (k + 1) (4 + 12 * width_of b k) →
+          ((t : ThreadData) → Copied (k + 1) t → k + 1 + n ≤ last → (0 < length (copies_arguments b n (k + 1)) → t.core.pc + 4 * length (copies_arguments b n (k + 1)) < 2 ^ 40) → Stands im t.core.pc (copies_arguments b n (k + 1)) → Went t (copies_arguments b n (k + 1)) (k + 1 + n) (4 * n + 12 * argument_words b n (k + 1))) →
+          Went u (copies_arguments b (suc n) k) (k + suc n) (4 * suc n + 12 * argument_words b (suc n) k)
       then_rest x rest =
           let long = length-append (one_code k) (copies_arguments b n (k + 1)) in
           let some = pc (omega arith) in
           let p = x.pc in
           both x (rest x.t x.copied (omega arith) (λ h. omega arith) (subst (λ q. Stands im q (copies_arguments b n (k + 1))) (sym p) (stands_back im u.core.pc (one_code k) (copies_arguments b n (k + 1)) st)))
         where
-          both : (x : Went u (one_code k) (k + 1)) → Went x.t (copies_arguments b n (k + 1)) (k + 1 + n) → Went u (copies_arguments b (suc n) k) (k + suc n)
+          both : (x : Went u (one_code k) (k + 1) (4 + 12 * width_of b k)) → Went x.t (copies_arguments b n (k + 1)) (k + 1 + n) (4 * n + 12 * argument_words b n (k + 1)) → Went u (copies_arguments b (suc n) k) (k + suc n) (4 * suc n + 12 * argument_words b (suc n) k)
           both x y =
               let long = length-append (one_code k) (copies_arguments b n (k + 1)) in
               let q = x.quick in
@@ -249,7 +245,7 @@ module _ (b : BodyData) (im : ImageData) (c : Compiled) (row from : ℕ) (places
       let g = place k (omega arith) in
       let g2 = g.narrow in
       let g3 = g.low in
-      rows_both (one_code k) (copies_arguments b n (k + 1)) ((omega arith, omega arith, omega arith), takes_rows b k (width_of b k) 0 (offset_of b k) (omega arith) (omega arith)) (copies_rows n (k + 1) (omega arith))
+      rows_both (one_code k) (copies_arguments b n (k + 1)) ((omega arith, omega arith, omega arith), taken_rows b k (omega arith) (omega arith)) (copies_rows n (k + 1) (omega arith))
 
   pub entry_copies : StandFrom im places from (entry_items b) → c.pc row 0 ≡ code_address (from + word_count (entry_items b)) → Copies b im w c fs s
   entry_copies st next =
@@ -261,7 +257,7 @@ module _ (b : BodyData) (im : ImageData) (c : Compiled) (row from : ℕ) (places
       (λ some. let h = stand_within im (code_address from) from (copies_arguments b last 0) refl stands some in omega arith)
       (subst (λ n. Stands im n (copies_arguments b last 0)) (sym begin) stands))
     where
-      arrived : Went s (copies_arguments b last 0) (0 + last) → Copies b im w c fs s
+      arrived : Went s (copies_arguments b last 0) (0 + last) (4 * last + 12 * argument_words b last 0) → Copies b im w c fs s
       arrived x =
           let n = words_plain (copies_arguments b last 0) in
           let q = x.quick in
@@ -305,22 +301,13 @@ entry_carries b im c row from places body room few st next w fs s e = entry_copi
 
 -- How many code words ------------------------------------------------------------
 
-takes_short : (b : BodyData) (arg n word offset : ℕ) → length (take_words b (adapts b arg) n word offset) ≤ 11 * n
-takes_short b arg zero word offset = omega arith
-takes_short b arg (suc n) word offset =
-    let a = length-append (rv.Ld 6 5 (8 * word) ∷ adapts b arg ++ stores_word 6 offset) (take_words b (adapts b arg) n (word + 1) (offset + 1)) in
-    let d = one_short b arg word offset in
-    let r = takes_short b arg n (word + 1) (offset + 1) in
+copies_short : (b : BodyData) (n k : ℕ) → length (copies_arguments b n k) ≤ 16 * n
+copies_short b zero k = omega arith
+copies_short b (suc n) k =
+    let a = length-append (rv.Ld 5 12 (8 * k) ∷ taken_argument b k) (copies_arguments b n (k + 1)) in
+    let d = taken_short b k in
+    let r = copies_short b n (k + 1) in
     omega arith
 
-copies_short : (b : BodyData) → IsPlan b.plan → (n k : ℕ) → length (copies_arguments b n k) ≤ 177 * n
-copies_short b plan zero k = omega arith
-copies_short b plan (suc n) k =
-    let a = length-append (rv.Ld 5 12 (8 * k) ∷ take_words b (adapts b k) (width_of b k) 0 (offset_of b k)) (copies_arguments b n (k + 1)) in
-    let d = takes_short b k (width_of b k) 0 (offset_of b k) in
-    let narrow = all_narrow b.plan plan k in
-    let r = copies_short b plan n (k + 1) in
-    omega arith
-
-pub entry_short : (b : BodyData) → IsPlan b.plan → word_count (entry_items b) ≤ 177 * argument_count b
-entry_short b plan = let n = words_plain (copies_arguments b (argument_count b) 0) in let h = copies_short b plan (argument_count b) 0 in omega arith
+pub entry_short : (b : BodyData) → word_count (entry_items b) ≤ 16 * argument_count b
+entry_short b = let n = words_plain (copies_arguments b (argument_count b) 0) in let h = copies_short b (argument_count b) 0 in omega arith

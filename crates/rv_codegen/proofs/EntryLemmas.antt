@@ -30,7 +30,7 @@ use Rattle.rv_codegen.proofs.CalcLemmas.{mod_small}
 
 module _ (im : ImageData) where
   -- a turn of an instruction that jumps
-  jump_walk : {n : ℕ} {u : ThreadData} (t : ThreadData) (i : Instr) (target : ℕ) → t.doing ≡ Runs → HasInstr im t.core.pc i → effect_of i t.core ≡ Goes 0 target → Walk im n (with_core t (at_pc t.core target)) u → Walk im (suc n) t u
+  pub jump_walk : {n : ℕ} {u : ThreadData} (t : ThreadData) (i : Instr) (target : ℕ) → t.doing ≡ Runs → HasInstr im t.core.pc i → effect_of i t.core ≡ Goes 0 target → Walk im n (with_core t (at_pc t.core target)) u → Walk im (suc n) t u
   jump_walk t i target runs h move r = walks _ (with_core t (at_pc t.core target)) (turn_is im t i h runs ∙ ap (λ x. plain_move (machine_does t h.word x)) move) r
 
   -- Code ran from one state to another, over x6 and x7 alone; x6 is then a word.
@@ -46,7 +46,7 @@ module _ (im : ImageData) where
     pub doing : t.doing ≡ u.doing
     pub sized : IsSized t
 
-  jumped_sized : (t : ThreadData) (target : ℕ) → IsSized t → IsSized (with_core t (at_pc t.core target))
+  pub jumped_sized : (t : ThreadData) (target : ℕ) → IsSized t → IsSized (with_core t (at_pc t.core target))
   jumped_sized t target z = record { registers = z.registers; register = z.register; word = z.word }
 
   -- the four instructions behind the tests
@@ -173,7 +173,7 @@ module _ (im : ImageData) where
 -- Words of one argument --------------------------------------------------------
 
 module _ (b : BodyData) (arg : ℕ) where
-  adapts_few : length (adapts b arg) ≤ 7
+  pub adapts_few : length (adapts b arg) ≤ 7
   adapts_few = by_test (is_bool_place (place_type b (Argument arg))) (is_unboxed b arg)
     where
       by_test : (is_bool is_box : Bool) → length (if is_bool then rv.Andi 6 6 255 ∷ [] else if is_box then points_into_box else []) ≤ 7
@@ -207,7 +207,7 @@ module _ (b : BodyData) (arg : ℕ) where
       omega arith
 
 module _ (b : BodyData) (im : ImageData) (arg : ℕ) where
-  adapts_word : (u : ThreadData) → IsSized u → u.doing ≡ Runs → (x : ℕ) → register_of u.core 6 ≡ x → u.core.pc + 64 < 2 ^ 64 → Stands im u.core.pc (adapts b arg) → Adapted im u (adapts b arg) (adapted b arg x)
+  pub adapts_word : (u : ThreadData) → IsSized u → u.doing ≡ Runs → (x : ℕ) → register_of u.core 6 ≡ x → u.core.pc + 64 < 2 ^ 64 → Stands im u.core.pc (adapts b arg) → Adapted im u (adapts b arg) (adapted b arg x)
   adapts_word u z runs x six room st = by_test (is_bool_place (place_type b (Argument arg))) (is_unboxed b arg) st
     where
       masked : Stands im u.core.pc (rv.Andi 6 6 255 ∷ []) → Set u (rv.Andi 6 6 255 ∷ []) 6 (x % 256) → Adapted im u (rv.Andi 6 6 255 ∷ []) (x % 256)
@@ -392,3 +392,12 @@ module _ (b : BodyData) (im : ImageData) (arg : ℕ) where
                     ap (mem_of y.t.stack) e
                     ∙ y.words j (omega arith)
                     ∙ ap (adapted b arg) (ap (mem_of x.t.stack) d ∙ same (a + word + suc j) (λ q. omega (arith, q)))
+
+-- how many code words so many words take
+pub takes_short : (b : BodyData) (arg n word offset : ℕ) → length (take_words b (adapts b arg) n word offset) ≤ 11 * n
+takes_short b arg zero word offset = omega arith
+takes_short b arg (suc n) word offset =
+    let a = length-append (one_code b arg word offset) (take_words b (adapts b arg) n (word + 1) (offset + 1)) in
+    let d = one_short b arg word offset in
+    let r = takes_short b arg n (word + 1) (offset + 1) in
+    omega arith

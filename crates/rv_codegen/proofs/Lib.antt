@@ -24,4 +24,5 @@ pub mod ReturnCarries
 pub mod PlanLemmas
 pub mod ShortLemmas
 pub mod EntryLemmas
+pub mod LoopLemmas
 pub mod EntryCarries

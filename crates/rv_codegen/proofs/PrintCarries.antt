@@ -8,7 +8,6 @@ use Rattle.il_model.specs.declared.program.Program.{Program}
 use Rattle.interaction.specs.Process.{Naming, Ask, Spell, Stuck}
 use Rattle.interaction.specs.Simulation.{Sides, Keeps, Onward}
 use Rattle.interaction.specs.Simulation as simulation
-use Rattle.interaction.specs.Thread as thread
 use Rattle.store_object.specs.declared.request.Request.{Request}
 use Rattle.store_object.specs.declared.request.Request.TheVariants as ask
 use Rattle.store_object.specs.declared.request.Form.{Form}

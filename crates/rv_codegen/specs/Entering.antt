@@ -1,5 +1,5 @@
 -- The entry of a body: where a thread stands when its frame is new, and what the copy of the arguments owes. This project's own.
-use Rattle.std.specs.Prelude.{◌≡◌, ℕ, ◌+◌, ◌*◌, ◌/◌, ◌%◌, ◌^◌, ◌<◌, ◌≤◌, ◌==◌, ◌&&◌, nat_lt, nat_le, if◌then◌else◌, List, length, Option, Some, None}
+use Rattle.std.specs.Prelude.{◌≡◌, ℕ, zero, suc, ◌+◌, ◌*◌, ◌/◌, ◌%◌, ◌^◌, ◌<◌, ◌≤◌, ◌==◌, ◌&&◌, nat_lt, nat_le, if◌then◌else◌, List, length, Option, Some, None}
 use Rattle.cil_meaning.specs.Values.{Value}
 use Rattle.cil_meaning.specs.Frames.{Frame, Frames, Nothing}
 use Rattle.cil_meaning.specs.Groups.{Argument}
@@ -27,6 +27,11 @@ adapted b n word = if is_bool_place (place_type b (Argument n)) then word % 256 
 abbrev pub forgets : (top first last : ℕ) → (ℕ → ℕ → Option Value) → ℕ → ℕ → Option Value
 forgets top first last value l p = if l == top && (nat_le first p && nat_lt p last) then None else value l p
 
+-- how many words the places of so many arguments have, from one on
+abbrev pub argument_words : BodyData → (count first : ℕ) → ℕ
+argument_words b zero first = 0
+argument_words b (suc n) first = width_of b first + argument_words b n (first + 1)
+
 -- A thread stands at a body's entry, in a new frame. The frames are those of the process once the arguments are copied: until then
 -- their places may hold anything. x12 is the address of a list with the address of each argument, whose words lie in the frames below.
 pub record IsEntering (b : BodyData) (im : ImageData) (w : ℕ → ℕ) (c : Compiled) (row from : ℕ) (fs : Frames) (s : ThreadData) : Type 0 where
@@ -52,12 +57,12 @@ pub record IsEntering (b : BodyData) (im : ImageData) (w : ℕ → ℕ) (c : Com
   pub leads : (n : ℕ) (v : Value) → n < argument_count b → value_at fs top n ≡ Some v → Leads (map_of c runner s.stack) top v
   pub words : (n i : ℕ) (v : Value) → n < argument_count b → value_at fs top n ≡ Some v → i < size_of v → adapted b n (mem_of s.stack (address n + i)) ≡ word_in (map_of c runner s.stack) v i
 
--- The entry's code comes to the code of instruction 0, where both stand together with the copied arguments, by private turns alone,
--- and no more of them than it has code words.
+-- The entry's code comes to the code of instruction 0, where both stand together with the copied arguments, by private turns alone:
+-- four at most for each argument, and twelve for each of its words.
 pub record Copies (b : BodyData) (im : ImageData) (w : ℕ → ℕ) (c : Compiled) (fs : Frames) (s : ThreadData) : Type 0 where
   pub t : ThreadData
   pub turns : ℕ
-  pub quick : turns ≤ word_count (entry_items b)
+  pub quick : turns ≤ 4 * argument_count b + 12 * argument_words b (argument_count b) 0
   pub walk : Walk im turns s t
   pub together : Together im w c fs t
 

@@ -20,7 +20,7 @@ use Rattle.rv_codegen.specs.declared.forms.PlainForm.{PlainForm}
 use Rattle.rv_codegen.specs.declared.forms.PlainForm.TheVariants as form
 use Rattle.rv_codegen.specs.FrameWords.{loads_word, stores_word}
 use Rattle.rv_codegen.specs.Constants.{sets_word}
-use Rattle.rv_codegen.specs.PlainItems.{BodyData, plain, rest, wrapping_instr, shift_instr, unary_instr, comparison_instrs, is_int32, move_instrs, offset_of, from_top, type_from_top, next_place, place_instrs, binary_instrs, unary_instrs, conversion_instrs, branch_items, switch_items, return_instrs, print_instrs, adapts, width_of, take_words}
+use Rattle.rv_codegen.specs.PlainItems.{BodyData, plain, rest, wrapping_instr, shift_instr, unary_instr, comparison_instrs, is_int32, move_instrs, offset_of, from_top, type_from_top, next_place, place_instrs, binary_instrs, unary_instrs, conversion_instrs, branch_items, switch_items, return_instrs, print_instrs, taken_argument}
 
 abbrev pub binary_instr : Binary → (is_narrow : Bool) → Instr
 binary_instr binary.Add is_narrow = wrapping_instr group.Sum is_narrow
@@ -98,4 +98,4 @@ taken_word adapt word offset = rv.Ld 6 5 (8 * word) ∷ adapt ++ stores_word 6 o
 
 -- the words of an argument, from its address in the list at x12 on
 abbrev pub copied_argument : BodyData → ℕ → List Instr
-copied_argument b n = rv.Ld 5 12 (8 * n) ∷ take_words b (adapts b n) (width_of b n) 0 (offset_of b n)
+copied_argument b n = rv.Ld 5 12 (8 * n) ∷ taken_argument b n

@@ -1,5 +1,5 @@
 -- The items of each plain instruction. This project's own.
-use Rattle.std.specs.Prelude.{ℕ, zero, suc, ◌+◌, ◌-◌, ◌*◌, ◌==◌, ◌&&◌, min, Bool, true, false, if◌then◌else◌, List, [], ◌∷◌, ◌++◌, length, map, flat_map, slice_get, slice_index, Option, Some, None, unwrap_or}
+use Rattle.std.specs.Prelude.{ℕ, zero, suc, ◌+◌, ◌-◌, ◌*◌, ◌%◌, ◌==◌, ◌&&◌, nat_lt, min, Bool, true, false, if◌then◌else◌, List, [], ◌∷◌, ◌++◌, length, map, flat_map, slice_get, slice_index, Option, Some, None, unwrap_or}
 use Rattle.type_tree.specs.declared.tree.TExpr.{TExpr}
 use Rattle.il_model.specs.declared.method.Body.{Body}
 use Rattle.il_model.specs.declared.method.MethodDef.{MethodDef}
@@ -26,7 +26,7 @@ use Rattle.rv_isa.specs.declared.instr.Instr.{Instr}
 use Rattle.rv_isa.specs.declared.instr.Instr.TheVariants as rv
 use Rattle.rv_isa.specs.declared.item.Item.{Item}
 use Rattle.rv_isa.specs.declared.item.Item.TheVariants as item
-use Rattle.rv_codegen.specs.FrameWords.{loads_word, stores_word, moves_words, addresses_word}
+use Rattle.rv_codegen.specs.FrameWords.{upper_of, loads_word, stores_word, moves_words, addresses_word}
 use Rattle.rv_codegen.specs.Constants.{sets_word}
 
 -- what code is made from: a method of a program, the stack before each of its instructions, the plan of its frames, and a label for
@@ -145,6 +145,16 @@ form_number printed.String = 1
 abbrev pub points_into_box : List Instr
 points_into_box =
     rv.Srli 7 6 30 ∷ rv.Bne 7 0 24 ∷ rv.Beq 6 0 20 ∷ rv.Slli 6 6 24 ∷ rv.Addi 7 0 1 ∷ rv.Slli 7 7 62 ∷ rv.Add 6 6 7 ∷ []
+
+-- One round of the loop that copies words: a word at the address in x5 goes to the frame, over x6; the address in x28 is short of the
+-- lower bits of the word's offset. Both go on to the next word, and back to the first instruction until x5 is the address in x29.
+abbrev pub round_instrs : List Instr → (offset : ℕ) → List Instr
+round_instrs adapt offset =
+    rv.Ld 6 5 0 ∷ adapt ++ rv.Sd 6 28 (8 * offset % 4096) ∷ rv.Addi 5 5 8 ∷ rv.Addi 28 28 8 ∷ rv.Bne 5 29 (8176 - 4 * length adapt) ∷ []
+
+-- so many words, one at least, from the address in x5 on go to the frame in a loop
+abbrev pub loop_words : List Instr → (count offset : ℕ) → List Instr
+loop_words adapt count offset = rv.Lui 28 (upper_of offset) ∷ rv.Add 28 28 8 ∷ rv.Addi 29 5 (8 * count) ∷ round_instrs adapt offset
 
 -- A value goes from place to place of a plan: the words that both have, or else a rest.
 abbrev pub moving : Plan → (from to : ℕ) → List Instr
@@ -323,10 +333,18 @@ module _ (b : BodyData) where
   take_words adapt zero word offset = []
   take_words adapt (suc n) word offset = (rv.Ld 6 5 (8 * word) ∷ adapt ++ stores_word 6 offset) ++ take_words adapt n (word + 1) (offset + 1)
 
+  -- whether a loop copies an argument: one after the other its words would have more than 16 code words
+  abbrev pub is_looped : ℕ → Bool
+  is_looped n = nat_lt (if is_unboxed n then 1 else 3) (width_of n)
+
+  -- the words of an argument, from the address in x5 on
+  abbrev pub taken_argument : ℕ → List Instr
+  taken_argument n = if is_looped n then loop_words (adapts n) (width_of n) (offset_of n) else take_words (adapts n) (width_of n) 0 (offset_of n)
+
   -- At a body's entry the arguments are copied, so many from one on, from the addresses in the list at x12.
   abbrev pub copies_arguments : (count first : ℕ) → List Instr
   copies_arguments zero first = []
-  copies_arguments (suc n) first = (rv.Ld 5 12 (8 * first) ∷ take_words (adapts first) (width_of first) 0 (offset_of first)) ++ copies_arguments n (first + 1)
+  copies_arguments (suc n) first = (rv.Ld 5 12 (8 * first) ∷ taken_argument first) ++ copies_arguments n (first + 1)
 
   abbrev pub entry_items : List Item
   entry_items = plain (copies_arguments argument_count 0)

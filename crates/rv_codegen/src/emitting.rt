@@ -114,8 +114,9 @@ fn op_at(method: &MethodDef, at: u32) -> Option<&Op>
 fn emit_at(alloc: Global, asm: &mut Asm, body: &BodyParts, at: u32) -> Result<(), NoMemory>
     requires legal { IsPlan body.now.plan.now }
     requires small { held_count (data_of body.now) ≤ 120 }
-    ensures { OnOk result ((op : Op) → op_at body.now.method.now at ≡ Some op →
+    ensures items { OnOk result ((op : Op) → op_at body.now.method.now at ≡ Some op →
         asm.new ≡ with_items asm.old (plain_items (data_of body.now) at op)) }
+    ensures places { OnOk result (asm.new.places ≡ asm.old.places) }
 {
     match op_at(body.method, at) {
         Some(op) => emit_form(alloc, asm, body, at, types_at(body.states, at), form_of(op)),
@@ -132,8 +133,10 @@ pub fn emit_plain(alloc: Global, asm: &mut Asm, body: &BodyView, instr: u32) -> 
     requires states { body.now.method < length body.now.program.now.states }
     requires plan { IsPlan body.now.plan.now }
     requires small { IsSmallView body.now }
-    ensures { OnOk result ((m : MethodDef) (s : States) (op : Op) → IsViewOf body.now m s → op_at m instr ≡ Some op →
+    ensures items { OnOk result ((m : MethodDef) (s : States) (op : Op) → IsViewOf body.now m s → op_at m instr ≡ Some op →
         asm.new ≡ with_items asm.old (plain_items (data_in body.now m s) instr op)) }
+    // The labels are those that it had, each with its place.
+    ensures places { OnOk result (asm.new.places ≡ asm.old.places) }
 {
     let parts = parts_of(body);
     emit_at(alloc, asm, &parts, instr)

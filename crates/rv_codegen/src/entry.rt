@@ -1,5 +1,5 @@
 // The copy of arguments at a body's entry.
-ghost use Rattle.std.specs.Prelude.{◌≡◌, ◌<◌, ◌≤◌, ◌∷◌, ◌++◌, [], OnOk, length};
+ghost use Rattle.std.specs.Prelude.{◌≡◌, ◌<◌, ◌≤◌, ◌∷◌, ◌++◌, [], OnOk, length, nat_lt, if◌then◌else◌};
 ghost use Rattle.std.specs.Option.{option_copied};
 ghost use Rattle.il_model.specs.Find.{takes_object};
 ghost use Rattle.il_model.specs.Kinds.{is_struct_kind, is_struct_class};
@@ -9,15 +9,15 @@ ghost use Rattle.il_model.specs.declared.method.MethodDef.{MethodDef};
 ghost use Rattle.cil_meaning.specs.Groups.{Argument};
 ghost use Rattle.rv_isa.specs.declared.instr.Instr.TheVariants as rv;
 ghost use Rattle.rv_codegen.specs.PlainItems as spec;
-ghost use Rattle.rv_codegen.specs.PlainItems.{argument_count, held_count, adapts, points_into_box, take_words, copies_arguments, entry_items};
+ghost use Rattle.rv_codegen.specs.PlainItems.{argument_count, held_count, adapts, points_into_box, take_words, loop_words, taken_argument, copies_arguments, entry_items};
 ghost use Rattle.rv_codegen.specs.Forms.{taken_word, copied_argument};
 ghost use Rattle.rv_codegen.specs.Emitted.{data_of, data_in, IsViewOf, IsSmallView, with_instrs, with_items};
 
 use crate::emitting::parts_of;
 use crate::forms::Slot;
-use crate::places::{argument_count, is_bool_slot, spot_of_slot};
+use crate::places::{Spot, argument_count, is_bool_slot, spot_of_slot};
 use crate::view::BodyParts;
-use crate::words::{emit, store_word};
+use crate::words::{emit, lower, store_word, upper};
 use cil_verify::BodyView;
 use il_model::{ClassDef, ClassKind, Shape};
 use mn_outside::NoMemory;
@@ -146,6 +146,78 @@ fn take_words(
     Ok(())
 }
 
+// How many code words adapt a word of an argument.
+fn adapting_len(body: &BodyParts, number: u16) -> u16
+    ensures value { result ≡ length (adapts (data_of body.now) number) }
+    ensures small { result ≤ 7 }
+{
+    if is_bool_slot(body, Slot::Argument(u64::from(number))) {
+        return 1;
+    }
+    if is_unboxed(body, number) {
+        return 7;
+    }
+    0
+}
+
+// So many words of an argument, in a loop: from the address in x5, up to the one in x29, to the address in x28, which
+// is short of the offset's lower bits.
+#[tactic(auto, using(crate::proofs::EmitLemmas::unary_grown))]
+fn loop_words(
+    asm: &mut Asm,
+    body: &BodyParts,
+    number: u16,
+    count: u16,
+    offset: u16,
+) -> Result<(), NoMemory>
+    requires count { count ≤ 16 }
+    requires offset { offset ≤ 4080 }
+    ensures { OnOk result (asm.new ≡ with_instrs asm.old (loop_words (adapts (data_of body.now) number) count offset)) }
+{
+    let (from, word, to, end) = (Reg::of(5), Reg::of(6), Reg::of(28), Reg::of(29));
+    let back = BranchOffset::of(8_176 - 4 * adapting_len(body, number));
+    let before = [
+        Instr::Lui(to, upper(offset)),
+        Instr::Add(to, to, Reg::of(8)),
+        Instr::Addi(end, from, Imm12::of(8 * count)),
+        Instr::Ld(word, from, Imm12::of(0)),
+    ];
+    let behind = [
+        Instr::Sd(word, to, lower(offset)),
+        Instr::Addi(from, from, Imm12::of(8)),
+        Instr::Addi(to, to, Imm12::of(8)),
+        Instr::Bne(from, end, back),
+    ];
+    emit_all(asm, before.as_slice())?;
+    emit_adapting(asm, body, number)?;
+    emit_all(asm, behind.as_slice())?;
+    Ok(())
+}
+
+// Whether a loop copies an argument of so many words: one after the other they'd have more than 16 code words.
+fn is_looped(body: &BodyParts, number: u16, width: u16) -> bool
+    ensures { result ≡ nat_lt (if spec.is_unboxed (data_of body.now) number then 1 else 3) width }
+{
+    if is_unboxed(body, number) {
+        return 1 < width;
+    }
+    3 < width
+}
+
+// The words of an argument whose place lies there.
+fn take_argument(asm: &mut Asm, body: &BodyParts, number: u16, spot: Spot) -> Result<(), NoMemory>
+    requires width { spot.width ≡ spec.width_of (data_of body.now) number }
+    requires offset { spot.offset ≡ spec.offset_of (data_of body.now) number }
+    requires narrow { spot.width ≤ 16 }
+    requires roomy { spot.offset ≤ 4080 }
+    ensures { OnOk result (asm.new ≡ with_instrs asm.old (taken_argument (data_of body.now) number)) }
+{
+    if is_looped(body, number, spot.width) {
+        return loop_words(asm, body, number, spot.width, spot.offset);
+    }
+    take_words(asm, body, number, spot.width, spot.offset)
+}
+
 // One argument.
 #[tactic(auto, using(crate::proofs::EmitLemmas::grown_twice, crate::proofs::PlanLemmas::all_narrow))]
 fn copy_argument(asm: &mut Asm, body: &BodyParts, number: u16) -> Result<(), NoMemory>
@@ -159,7 +231,7 @@ fn copy_argument(asm: &mut Asm, body: &BodyParts, number: u16) -> Result<(), NoM
         asm,
         Instr::Ld(Reg::of(5), Reg::of(12), Imm12::of(8 * number)),
     )?;
-    take_words(asm, body, number, spot.width, spot.offset)?;
+    take_argument(asm, body, number, spot)?;
     Ok(())
 }
 
@@ -192,8 +264,10 @@ pub fn emit_entry(asm: &mut Asm, body: &BodyView) -> Result<(), NoMemory>
     requires states { body.now.method < length body.now.program.now.states }
     requires plan { IsPlan body.now.plan.now }
     requires small { IsSmallView body.now }
-    ensures { OnOk result ((m : MethodDef) (s : States) → IsViewOf body.now m s →
+    ensures items { OnOk result ((m : MethodDef) (s : States) → IsViewOf body.now m s →
         asm.new ≡ with_items asm.old (entry_items (data_in body.now m s))) }
+    // The labels are those that it had, each with its place.
+    ensures places { OnOk result (asm.new.places ≡ asm.old.places) }
 {
     let parts = parts_of(body);
     copy_all(asm, &parts)

@@ -65,11 +65,12 @@ pub fn plain_instructions_are_carried()
     ensures write_string { (b : BodyData) (at : ℕ) → IsCarried b at op.WriteLineString }
 {}
 
-/// The items of a body's entry carry a thread to instruction 0, with the arguments copied, by a turn at most for each of
-/// their code words, of which there are 177 at most for an argument. A law alone: it does nothing.
+/// The items of a body's entry carry a thread to instruction 0, with the arguments copied, by four turns at most for
+/// each argument and twelve for each of its words. There are 16 code words at most for an argument. A law alone: it
+/// does nothing.
 pub fn arguments_are_carried()
     ensures entry { (b : BodyData) → EntryIsCarried b }
-    ensures short { (b : BodyData) → IsPlan b.plan → word_count (entry_items b) ≤ 177 * argument_count b }
+    ensures short { (b : BodyData) → word_count (entry_items b) ≤ 16 * argument_count b }
 {}
 
 /// No plain instruction has more than 256 code words, and 256 more for each target of a `switch`. A law alone: it does

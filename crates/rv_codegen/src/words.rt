@@ -13,15 +13,16 @@ pub(crate) fn emit(asm: &mut Asm, instr: Instr) -> Result<(), NoMemory>
     asm.emit(Item::Plain(instr))
 }
 
-// The upper bits of an offset's bytes, for lower twelve that count as a signed number.
-fn upper(offset: u16) -> Imm20
+/// The upper bits of an offset's bytes, for lower twelve that count as a signed number.
+pub(crate) fn upper(offset: u16) -> Imm20
     requires { offset < 4096 }
     ensures { result ≡ (8 * offset + 2048) / 4096 }
 {
     Imm20::of(u32::from((8 * offset + 2_048) / 4_096))
 }
 
-fn lower(offset: u16) -> Imm12
+/// The lower twelve bits of an offset's bytes.
+pub(crate) fn lower(offset: u16) -> Imm12
     requires { offset < 4096 }
     ensures { result ≡ 8 * offset % 4096 }
 {

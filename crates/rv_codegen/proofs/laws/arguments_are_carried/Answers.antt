@@ -5,4 +5,4 @@ pub returns-clause-entry : goal.returns-clause-entry
 returns-clause-entry c b = entry_carries b
 
 pub returns-clause-short : goal.returns-clause-short
-returns-clause-short c b plan = entry_short b plan
+returns-clause-short c b = entry_short b
