@@ -5,6 +5,7 @@ mod AdmittedLemmas
 mod WidthLemmas
 mod CallLemmas
 mod FillLemmas
+mod KeptLemmas
 mod LeadLemmas
 mod ServiceLemmas
 mod ReplyLemmas

@@ -2,6 +2,8 @@
 ghost use Rattle.std.specs.Prelude.{◌≡◌, Some};
 ghost use Rattle.rgctx_fill.specs.ThreadStates.{ImageData};
 ghost use Rattle.rgctx_fill.specs.Moves.{IsReplied};
+ghost use Rattle.rgctx_fill.specs.Turns.{FillData};
+ghost use Rattle.rgctx_fill.specs.declared.doing.Doing.TheVariants.{Fills};
 ghost use Rattle.rgctx_fill.specs.ThreadTurns.{next_move};
 ghost use Rattle.rv_machine.specs.Registers.{register_of};
 ghost use Rattle.rgctx_fill.specs.ServiceTable.{service_of};
@@ -15,9 +17,10 @@ use rgctx_fill::{Doing, ServiceKind, ThreadState, Thrown};
 use store_object::Reply;
 
 /// Takes the reply to the request that the last turn made: the state becomes the one that the turn has for this reply,
-/// whatever node words it read before.
+/// whatever node words it read before. No fill begins by a reply: one that is under way afterwards was so before.
 pub fn answer(state: &mut ThreadState, reply: Reply)
     ensures turn { (im : ImageData) → IsReplied (next_move im state.old) reply state.new }
+    ensures fill { (f : FillData) → state.new.doing ≡ Fills f → state.old.doing ≡ Fills f }
 {
     take_reply(state, reply);
 }

@@ -1,0 +1,5 @@
+use Rattle.service_cases.specs.Served.{Meets}
+use Rattle.service_cases.proofs.services.check_frame_rows.Given as goal
+
+abbrev pub invariant-loop-service : goal.invariant-loop-service
+invariant-loop-service g l = Meets l.fn.view.cat l.words
