@@ -1,0 +1,5 @@
+mod PieceLemmas
+mod StepLemmas
+mod MainLemmas
+mod RowLemmas
+mod StartLemmas

@@ -1,0 +1,5 @@
+pub mod Starts
+pub mod Going
+pub mod Memory
+pub mod Stepped
+pub mod Runs
