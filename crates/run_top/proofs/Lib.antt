@@ -13,4 +13,3 @@ mod RefuseLemmas
 mod FormLemmas
 pub mod Deepest
 mod TextLemmas
-mod MeantLemmas

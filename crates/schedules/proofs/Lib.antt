@@ -1,4 +1,0 @@
-pub mod DrawLemmas
-pub mod Following
-pub mod LastLemmas
-pub mod LiveLemmas

@@ -1,4 +1,0 @@
-pub mod Numbers
-pub mod Drawn
-pub mod Living
-pub mod Ends

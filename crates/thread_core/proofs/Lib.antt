@@ -1,5 +1,0 @@
-mod PieceLemmas
-mod StepLemmas
-mod MainLemmas
-mod RowLemmas
-mod StartLemmas

@@ -1,5 +1,0 @@
-pub mod Starts
-pub mod Going
-pub mod Memory
-pub mod Stepped
-pub mod Runs
