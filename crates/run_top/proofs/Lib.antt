@@ -13,3 +13,4 @@ mod RefuseLemmas
 mod FormLemmas
 pub mod Deepest
 mod TextLemmas
+mod MeantLemmas

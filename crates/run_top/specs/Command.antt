@@ -1,6 +1,8 @@
 -- The words of the commands. This project's own.
-use Rattle.std.specs.Prelude.{◌≡◌, ◌≢◌, ◌≤◌, ℕ, List, [], ◌∷◌, codes, Option, Some, None}
+use Rattle.std.specs.Prelude.{◌≡◌, ◌≢◌, ◌≤◌, ℕ, List, [], ◌∷◌, codes}
 use Rattle.std.specs.Fmt.{decimal}
+use Rattle.run_top.specs.declared.command.Task.{Task}
+use Rattle.run_top.specs.declared.command.Task.TheVariants.{Check, Exec, Mean}
 
 -- a word that is a file's: it isn't empty and doesn't begin with a minus
 abbrev pub IsPlainWord : List ℕ → Type 0
@@ -25,11 +27,19 @@ pub record IsCheck (words : List (List ℕ)) (name : List ℕ) : Type 0 where
   pub words_are : words ≡ codes "check" ∷ name ∷ []
   pub plain : IsPlainWord name
 
--- a command on this file, which runs its program for so many turns, or only checks it
-abbrev pub IsCommand : List (List ℕ) → List ℕ → Option ℕ → Type 0
-IsCommand words name (Some turns) = IsExec words name turns
-IsCommand words name None = IsCheck words name
+-- `mean F 0 TURNS`: four words, those of the command, the file, the seed and the turns
+pub record IsMean (words : List (List ℕ)) (name : List ℕ) (turns : ℕ) : Type 0 where
+  pub words_are : words ≡ codes "mean" ∷ name ∷ codes "0" ∷ decimal turns ∷ []
+  pub plain : IsPlainWord name
+  pub low : 1 ≤ turns
+  pub high : turns ≤ 4000000
+
+-- a command on this file, which does so with its program
+abbrev pub IsCommand : List (List ℕ) → List ℕ → Task → Type 0
+IsCommand words name Check = IsCheck words name
+IsCommand words name (Exec turns) = IsExec words name turns
+IsCommand words name (Mean turns) = IsMean words name turns
 
 -- the words are no command
 abbrev pub IsUsage : List (List ℕ) → Type 0
-IsUsage words = (name : List ℕ) (turns : Option ℕ) → ¬ IsCommand words name turns
+IsUsage words = (name : List ℕ) (task : Task) → ¬ IsCommand words name task

@@ -1,5 +1,5 @@
 -- Programs of the first form: one class with one static method, which adds int32 constants and prints them. This project's own.
-use Rattle.std.specs.Prelude.{◌≡◌, ℕ, ◌==◌, Bool, true, false, ◌&&◌, not, List, [], ◌∷◌, length, slice_get, is_none, is_some, Option, Some, None, option_map, option_and_then, if◌then◌else◌}
+use Rattle.std.specs.Prelude.{◌≡◌, ◌==◌, Bool, true, false, ◌&&◌, List, [], ◌∷◌, length, slice_get, is_none, Option, Some, None, option_map, option_and_then, if◌then◌else◌}
 use Rattle.type_tree.specs.declared.tree.TExpr.{TExpr}
 use Rattle.type_tree.specs.declared.tree.TNode.{TNode}
 use Rattle.type_tree.specs.declared.tree.TNode.TheVariants.{Node, ClassVar, MethodVar}

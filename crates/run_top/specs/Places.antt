@@ -1,5 +1,5 @@
 -- Where in the text a class, a method or an instruction of its program stands. This project's own.
-use Rattle.std.specs.Prelude.{ℕ, ◌+◌, List, length, slice_get, Option, Some, None, option_map, option_and_then, unwrap_or}
+use Rattle.std.specs.Prelude.{ℕ, ◌+◌, List, length, slice_get, Option, Some, None, unwrap_or}
 use Rattle.il_text.specs.declared.place.Spot.{Spot}
 use Rattle.il_parse.specs.declared.answer.Spots.{Spots}
 use Rattle.il_parse.specs.declared.answer.Parsed.{Parsed}

@@ -1,5 +1,6 @@
 -- What is written for each status, and what a call that answers leaves of the sink. This project's own.
-use Rattle.std.specs.Prelude.{◌≡◌, ◌≤◌, ◌⊎◌, ◌-◌, ◌++◌, length, ◌∷◌, [], ℕ, List, Option, codes}
+use Rattle.std.specs.Prelude.{◌≡◌, ◌≤◌, ◌⊎◌, ◌-◌, ◌++◌, length, ◌∷◌, [], ℕ, List, Option, Some, None, codes}
+use Rattle.std.specs.List.{flat_map}
 use Rattle.std.specs.Fmt.{decimal}
 use Rattle.std.specs.Io.KnownBytes.{Appends}
 use Rattle.mn_outside.specs.Causes.{Rose, AppendsPrefix, AppendsTwo}
@@ -16,6 +17,17 @@ use Rattle.run_top.specs.declared.refusal.TextRefusal.{TextRefusal}
 use Rattle.run_top.specs.declared.refusal.TextRefusal.TheVariants.{Parser, Verifier, Form}
 use Rattle.store_object.specs.declared.ending.Ending.{Ending}
 use Rattle.store_object.specs.declared.ending.Ending.TheVariants as kept
+use Rattle.type_tree.specs.declared.tree.TExpr.{TExpr}
+use Rattle.interaction.specs.declared.history.Event.{Event}
+use Rattle.interaction.specs.Process.{Naming}
+use Rattle.store_object.specs.declared.request.Cause.{Cause}
+use Rattle.store_object.specs.declared.request.Cause.TheVariants as limit
+use Rattle.store_object.specs.declared.request.Request.{Request}
+use Rattle.store_object.specs.declared.reply.Reply.{Reply}
+use Rattle.cil_meaning.specs.Naming.{Mention}
+use Rattle.cil_meaning.specs.Shown.{printed_line, output_bytes, name_of_kind}
+use Rattle.unshared.specs.Listed.{naming_of}
+use Rattle.run_top.specs.declared.record.MeantRun.{MeantRun}
 use Rattle.run_top.specs.declared.record.RunRecord.{RunRecord}
 use Rattle.run_top.specs.History.{output}
 
@@ -97,6 +109,48 @@ ending_line ending = []
 -- what is written for a run: its output, and then the line of its ending
 abbrev pub shown : RunRecord → List ℕ
 shown r = output r.history.items ++ ending_line r.ending
+
+-- ---- the run of a written meaning
+
+-- the line of a run that passed a limit
+abbrev pub limit_line : Cause → List ℕ
+limit_line limit.Depth = line (codes "Stopped: Depth")
+limit_line limit.Positions = line (codes "Stopped: Positions")
+limit_line limit.ValueWords = line (codes "Stopped: ValueWords")
+limit_line limit.Heap = line (codes "Stopped: Heap")
+limit_line limit.Threads = line (codes "Stopped: Threads")
+
+-- the line of an exception that nobody caught, whose type has this name
+abbrev pub uncaught_line : List ℕ → List ℕ
+uncaught_line name = line (codes "Unhandled exception: " ++ name)
+
+-- the line of its ending
+abbrev pub meant_ending_line : Program → Naming Mention TExpr → Ending → List ℕ
+meant_ending_line p n kept.Done = []
+meant_ending_line p n (kept.Uncaught kind) = uncaught_line (name_of_kind p n kind)
+meant_ending_line p n kept.Turns = line (codes "Stopped: Turns")
+meant_ending_line p n (kept.Stopped why) = limit_line why
+meant_ending_line p n (kept.Full region key) = []
+meant_ending_line p n (kept.Fault fault) = []
+
+-- its output, and then the line of its ending
+abbrev pub shown_by : Program → Naming Mention TExpr → List (Event Request Reply) → Ending → List ℕ
+shown_by p n history ending = output_bytes p n history ++ meant_ending_line p n ending
+
+-- what an event prints, with the line's end
+abbrev pub bytes_of_line : Option (List ℕ) → List ℕ
+bytes_of_line None = []
+bytes_of_line (Some text) = line text
+
+abbrev pub event_bytes : Program → Naming Mention TExpr → Request → List ℕ
+event_bytes p n r = bytes_of_line (printed_line p n r)
+
+-- the same bytes as those of the output, an event at a time
+abbrev pub meant_output : Program → Naming Mention TExpr → List (Event Request Reply) → List ℕ
+meant_output p n h = flat_map (λ (e : Event Request Reply). event_bytes p n e.request) h
+
+abbrev pub shown_meant : MeantRun → List ℕ
+shown_meant r = shown_by r.program.program (naming_of r.meant.trees) r.meant.history.items r.meant.ending
 
 -- an answer that has these bytes and this status: they were all put; or a put failed, after a prefix of them;
 -- or there was no memory, after a prefix of them, and a prefix of the line for that was put

@@ -8,6 +8,7 @@ mod depth_tests;
 mod first;
 mod first_form;
 mod machine;
+mod meant_lines;
 mod places;
 mod record;
 mod refusal;

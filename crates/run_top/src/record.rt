@@ -2,6 +2,7 @@
 use cil_verify::Verified;
 use interaction::What;
 use store_object::{Ending, Event};
+use unshared::Meant;
 
 /// A turn of a thread. Threads are numbered from 0.
 #[derive(Clone, Copy, Debug, PartialEq, Eq)]
@@ -23,7 +24,14 @@ pub struct RunRecord {
     pub ending: Ending,
 }
 
-/// The status, and the run where there was one.
+/// A run of the written meaning of an accepted program.
+#[derive(Drop)]
+pub(crate) struct MeantRun {
+    pub program: Verified,
+    pub meant: Meant,
+}
+
+/// The status, and the run of an image where there was one.
 #[derive(Drop)]
 pub struct Outcome {
     pub status: u8,

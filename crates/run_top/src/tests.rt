@@ -166,7 +166,20 @@ fn other_words_are_no_command(rt: HostRuntime) -> Result<(), Fail> {
         "exec p.il",
         "exec p.il @all 0",
         "exec p.il @all 0 1 1",
+        "mean",
+        "mean p.il",
+        "mean p.il 0",
+        "mean p.il 0 1 1",
         "mean p.il @all 0 1",
+        "Mean p.il 0 1",
+        "mean -p.il 0 1",
+        "mean p.il 1 1",
+        "mean p.il 00 1",
+        "mean p.il 0 0",
+        "mean p.il 0 01",
+        "mean p.il 0 -1",
+        "mean p.il 0 1x",
+        "mean p.il 0 4000001",
         "exec -p.il @all 0 1",
         "exec p.il @none 0 1",
         "exec p.il @all 1 1",
@@ -343,5 +356,179 @@ fn other_spellings_of_the_form_run(rt: HostRuntime) -> Result<(), Fail> {
         assert_eq!(rt; left.outcome.status, 0, "{text}");
         assert!(rt; has_written(&left, written), "{text}");
     }
+    Ok(())
+}
+
+// What the written meaning of a program shows, by the instructions of Main: one put for each printed line, and one for
+// the line of the ending. The sum takes five turns, of which the last ends the thread.
+const MEANINGS: [(&str, &str, u8, &str, u32); 13] = [
+    (
+        "ldc.i4 2 ldc.i4 3 add call void System.Console::WriteLine(int32)",
+        "mean p.il 0 4000000",
+        0,
+        "5\n",
+        1,
+    ),
+    (
+        "ldc.i4 2 ldc.i4 3 add call void System.Console::WriteLine(int32)",
+        "mean p.il 0 5",
+        0,
+        "5\n",
+        1,
+    ),
+    (
+        "ldc.i4 2 ldc.i4 3 add call void System.Console::WriteLine(int32)",
+        "mean p.il 0 4",
+        5,
+        "5\nStopped: Turns\n",
+        2,
+    ),
+    (
+        "ldc.i4 2 ldc.i4 3 add call void System.Console::WriteLine(int32)",
+        "mean p.il 0 1",
+        5,
+        "Stopped: Turns\n",
+        1,
+    ),
+    ("", "mean p.il 0 1", 0, "", 0),
+    ("L: br L", "mean p.il 0 100", 5, "Stopped: Turns\n", 1),
+    (
+        "ldc.i4 -7 call void System.Console::WriteLine(int32) ldc.i8 4294967296 call void System.Console::WriteLine(int64)",
+        "mean p.il 0 4000000",
+        0,
+        "-7\n4294967296\n",
+        2,
+    ),
+    (
+        "ldstr \"a b\" call void System.Console::WriteLine(string) ldnull call void System.Console::WriteLine(string)",
+        "mean p.il 0 4000000",
+        0,
+        "a b\n\n",
+        2,
+    ),
+    (
+        "ldc.i4 1 ldc.i4 0 div pop",
+        "mean p.il 0 4000000",
+        3,
+        "Unhandled exception: System.DivideByZeroException\n",
+        1,
+    ),
+    (
+        "ldc.i4 7 call void System.Console::WriteLine(int32) ldc.i4 2147483647 ldc.i4 1 add.ovf pop",
+        "mean p.il 0 4000000",
+        3,
+        "7\nUnhandled exception: System.OverflowException\n",
+        2,
+    ),
+    (
+        "newobj instance void object::.ctor() castclass P pop",
+        "mean p.il 0 4000000",
+        3,
+        "Unhandled exception: System.InvalidCastException\n",
+        1,
+    ),
+    (
+        "ldc.i4 4194303 newarr int64 pop",
+        "mean p.il 0 4000000",
+        6,
+        "Stopped: Heap\n",
+        1,
+    ),
+    (
+        "call void P::Main()",
+        "mean p.il 0 4000000",
+        6,
+        "Stopped: Depth\n",
+        1,
+    ),
+];
+
+#[test]
+fn written_meanings_are_run(rt: HostRuntime) -> Result<(), Fail> {
+    let alloc = rt.alloc();
+    for (instrs, command, status, written, puts) in MEANINGS {
+        let text = program(alloc, instrs)?;
+        let left = run(alloc, command, text.as_str(), &[], &[])?;
+        assert_eq!(rt; left.outcome.status, status, "{command} {instrs}");
+        assert!(rt; has_written(&left, written), "{command} {instrs}");
+        assert_eq!(rt;
+            (left.files.calls, left.out.calls),
+            (1, puts),
+            "{command} {instrs}"
+        );
+        assert!(rt; left.outcome.kept.is_none(), "{command} {instrs}");
+    }
+    Ok(())
+}
+
+// `mean` takes programs that aren't of the first form, and refuses a text as `check` does.
+#[test]
+fn refused_texts_have_no_meaning(rt: HostRuntime) -> Result<(), Fail> {
+    let alloc = rt.alloc();
+    let cases = [
+        ("", 2, "Text 1:1 NoEntry\n"),
+        (".class P {", 2, "Text 1:11 Syntax\n"),
+        (
+            ".class P { .method static void Main() { .entrypoint ldc.i4 1 ldc.i8 1 add pop ret } }",
+            2,
+            "Text 1:71 BadType\n",
+        ),
+        (
+            ".class Q<T> { } .class P { .method static void Main() { .entrypoint ret } }",
+            2,
+            "Text 1:1 NotBuilt\n",
+        ),
+        (
+            ".class Q { .method static int32 Six() { ldc.i4 6 ret } } .class P { .method static void Main() { .entrypoint call int32 Q::Six() call void System.Console::WriteLine(int32) ret } }",
+            0,
+            "6\n",
+        ),
+    ];
+    for (text, status, written) in cases {
+        let left = run(alloc, "mean p.il 0 4000000", text, &[], &[])?;
+        assert_eq!(rt; left.outcome.status, status, "{text}");
+        assert!(rt; has_written(&left, written), "{text}");
+        assert!(rt; left.outcome.kept.is_none(), "{text}");
+    }
+    Ok(())
+}
+
+#[test]
+fn a_failed_put_of_a_meaning_is_the_last(rt: HostRuntime) -> Result<(), Fail> {
+    let alloc = rt.alloc();
+    let instrs = format!(in alloc; "ldc.i4 1 {W} ldc.i4 2 {W} ldc.i4 3 {W}")?;
+    let text = program(alloc, instrs.as_str())?;
+    let cases = [
+        ("mean p.il 0 4000000", 0, "", 1),
+        ("mean p.il 0 4000000", 1, "1\n", 2),
+        ("mean p.il 0 4", 2, "1\n2\n", 3),
+    ];
+    for (command, fails, written, puts) in cases {
+        let left = run(alloc, command, text.as_str(), &[], &[fails])?;
+        assert_eq!(rt; left.outcome.status, 9, "{command} {fails}");
+        assert!(rt; has_written(&left, written), "{command} {fails}");
+        assert_eq!(rt;
+            (left.out.calls, left.out.faults),
+            (puts, 1),
+            "{command} {fails}"
+        );
+        assert!(rt; left.outcome.kept.is_none(), "{command} {fails}");
+    }
+    Ok(())
+}
+
+#[test]
+fn a_file_of_a_meaning_that_fails_is_named(rt: HostRuntime) -> Result<(), Fail> {
+    let alloc = rt.alloc();
+    let text = program(alloc, "")?;
+    let left = run(alloc, "mean p.il 0 1", text.as_str(), &[0], &[])?;
+    assert_eq!(rt; left.outcome.status, 8);
+    assert!(rt; has_written(&left, "File p.il\n"));
+    let left = run(alloc, "mean q.il 0 1", text.as_str(), &[], &[])?;
+    assert_eq!(rt; left.outcome.status, 8);
+    assert!(rt; has_written(&left, "File q.il\n"));
+    let left = run(alloc, "mean p.il 0 1", text.as_str(), &[0], &[0])?;
+    assert_eq!(rt; left.outcome.status, 9);
+    assert!(rt; has_written(&left, ""));
     Ok(())
 }

@@ -3,20 +3,24 @@ ghost use Rattle.std.specs.Prelude.{◌≡◌, ◌≢◌, ◌≤◌, ◌⊎◌, 
 ghost use Rattle.std.specs.Io.KnownBytes.{Appends};
 ghost use Rattle.mn_outside.specs.Causes.{AppendsPrefix, AppendsTwo, Holds, NeverFall, Rose};
 ghost use Rattle.mn_outside.specs.declared.outside.Refused.TheVariants.{Fault};
+ghost use Rattle.il_model.specs.Accepted.{IsOfText};
 ghost use Rattle.il_parse.specs.Answer.{IsAnswer};
 ghost use Rattle.run_top.specs.declared.first.FirstOp.{FirstOp};
 ghost use Rattle.run_top.specs.declared.refusal.TextRefusal.{TextRefusal};
 ghost use Rattle.run_top.specs.declared.refusal.TextRefusal.TheVariants.{Form};
 ghost use Rattle.run_top.specs.declared.top.Refusal.TheVariants.{File, Text};
 ghost use Rattle.run_top.specs.FirstForm.{IsFirstForm};
+ghost use Rattle.cil_verify.specs.Verifies.{IsVerified};
+ghost use Rattle.run_top.specs.declared.command.Task.{Task as TheTask};
 ghost use Rattle.run_top.specs.Command.{IsCommand, IsUsage};
-ghost use Rattle.run_top.specs.Headline.{AcceptsText, Gives, IsFound, IsJudged, IsKept, IsPlainStatus, IsProgramRun, IsRefusalStatus, IsStatus, IsUncut, RefusedBy, RefusesText};
-ghost use Rattle.run_top.specs.Written.{Answers, file_line as the_file_line, no_memory_line, shown, status_of as the_status_of, usage_line};
+ghost use Rattle.run_top.specs.Headline.{AcceptsText, Gives, IsFound, IsJudged, IsKept, IsMeantRun, IsPlainStatus, IsProgramRun, IsRefusalStatus, IsStatus, IsUncut, RefusedBy, RefusesText};
+ghost use Rattle.run_top.specs.Written.{Answers, file_line as the_file_line, no_memory_line, shown, shown_meant, status_of as the_status_of, usage_line};
 
-use crate::command::command;
+use crate::command::{Task, command};
 use crate::first_form::first_form;
+use crate::meant_lines::show_meant;
 use crate::places::spot_in;
-use crate::record::{Outcome, RunRecord};
+use crate::record::{MeantRun, Outcome, RunRecord};
 use crate::refusal::{TextRefusal, refusal_line};
 use crate::run::run_program;
 use crate::written::{NO_MEMORY, USAGE, accepted_line, file_line, put, show_run, status_of};
@@ -24,6 +28,8 @@ use cil_verify::{Verified, fits_numbers, verify};
 use il_parse::parse;
 use mn_outside::{Failed, Files, Name, NoMemory, Refused, Sink};
 use std::alloc::Global;
+use store_object::Chooser;
+use unshared::mean;
 
 // Why a command has no run.
 #[derive(Clone, Copy, Debug, PartialEq, Eq)]
@@ -32,17 +38,20 @@ pub(crate) enum Refusal {
     File,
 }
 
-// What a command finds in a text that isn't refused: a program that is accepted, or its run.
+// What a command finds in a text that isn't refused: a program that is accepted, the run of its image, or that of its
+// written meaning.
 #[derive(Drop)]
 pub(crate) enum Found {
     Accepted(Verified),
     Ran(RunRecord),
+    Meant(MeantRun),
 }
 
 // The program of a text, where the verifier accepts it.
 fn judge(alloc: Global, text: &[u8]) -> Result<Verified, Refused<TextRefusal>>
     ensures judged { IfOk result (λ v. IsJudged text.now v) }
-    ensures refused { (why : TextRefusal) → result ≡ Err (Fault why) → (turns : Option ℕ) → RefusedBy (IsAnswer text.now) turns why }
+    ensures text { IfOk result (λ v. IsOfText v.program) }
+    ensures refused { (why : TextRefusal) → result ≡ Err (Fault why) → (task : TheTask) → RefusedBy (IsAnswer text.now) task why }
 {
     let parsed = match parse(alloc, text) {
         Ok(parsed) => parsed,
@@ -82,21 +91,35 @@ fn run_judged(
     }
 }
 
+// The run of the written meaning of a program that is accepted.
+fn run_meaning(alloc: Global, program: Verified, limit: u32) -> Result<MeantRun, NoMemory>
+    requires verified { IsVerified program }
+    requires text { IsOfText program.program }
+    ensures { IfOk result (λ r. IsMeantRun limit program r) }
+{
+    let meant = mean(alloc, &program, Chooser::Seed(0), limit)?;
+    Ok(MeantRun { program, meant })
+}
+
 // What a command finds in a text.
-fn carry_out(alloc: Global, text: &[u8], turns: Option<u32>) -> Result<Found, Refused<TextRefusal>>
-    ensures found { IfOk result (IsFound turns text.now) }
-    ensures refused { (why : TextRefusal) → result ≡ Err (Fault why) → RefusedBy (IsAnswer text.now) turns why }
+fn carry_out(alloc: Global, text: &[u8], task: Task) -> Result<Found, Refused<TextRefusal>>
+    ensures found { IfOk result (IsFound task text.now) }
+    ensures refused { (why : TextRefusal) → result ≡ Err (Fault why) → RefusedBy (IsAnswer text.now) task why }
 {
     let program = match judge(alloc, text) {
         Ok(program) => program,
         Err(refused) => return Err(refused),
     };
-    let Some(limit) = turns else {
-        return Ok(Found::Accepted(program));
-    };
-    match run_judged(alloc, program, limit) {
-        Ok(run) => Ok(Found::Ran(run)),
-        Err(refused) => Err(refused),
+    match task {
+        Task::Check => Ok(Found::Accepted(program)),
+        Task::Exec(limit) => match run_judged(alloc, program, limit) {
+            Ok(run) => Ok(Found::Ran(run)),
+            Err(refused) => Err(refused),
+        },
+        Task::Mean(limit) => match run_meaning(alloc, program, limit) {
+            Ok(run) => Ok(Found::Meant(run)),
+            Err(NoMemory) => Err(Refused::NoMemory),
+        },
     }
 }
 
@@ -104,11 +127,11 @@ fn carry_out(alloc: Global, text: &[u8], turns: Option<u32>) -> Result<Found, Re
 fn carry_out_file<F: Files>(
     alloc: Global,
     name: &str,
-    turns: Option<u32>,
+    task: Task,
     files: &mut F,
 ) -> Result<Found, Refused<Refusal>>
-    ensures found { IfOk result (λ found. (text : List ℕ) × Holds (F.held files.old) name.now text × IsFound turns text found) }
-    ensures text { (why : TextRefusal) → result ≡ Err (Fault (Text why)) → (text : List ℕ) × Holds (F.held files.old) name.now text × RefusedBy (IsAnswer text) turns why }
+    ensures found { IfOk result (λ found. (text : List ℕ) × Holds (F.held files.old) name.now text × IsFound task text found) }
+    ensures text { (why : TextRefusal) → result ≡ Err (Fault (Text why)) → (text : List ℕ) × Holds (F.held files.old) name.now text × RefusedBy (IsAnswer text) task why }
     ensures file { result ≡ Err (Fault File) → Rose (F.read_faults files.old name.now) (F.read_faults files.new name.now) }
     ensures held { F.held files.new ≡ F.held files.old }
     ensures reads { NeverFall (F.read_faults files.old) (F.read_faults files.new) }
@@ -119,7 +142,7 @@ fn carry_out_file<F: Files>(
         Err(Refused::Fault(Failed)) => return Err(Refused::Fault(Refusal::File)),
         Err(Refused::NoMemory) => return Err(Refused::NoMemory),
     };
-    match carry_out(alloc, bytes.as_slice(), turns) {
+    match carry_out(alloc, bytes.as_slice(), task) {
         Ok(found) => Ok(found),
         Err(Refused::Fault(why)) => Err(Refused::Fault(Refusal::Text(why))),
         Err(Refused::NoMemory) => Err(Refused::NoMemory),
@@ -160,6 +183,24 @@ fn finish<K: Sink>(alloc: Global, run: RunRecord, out: &mut K) -> Outcome
     }
 }
 
+// The answer of a command whose program's written meaning was run.
+fn tell<K: Sink>(alloc: Global, run: &MeantRun, out: &mut K) -> Outcome
+    ensures kept { result.kept ≡ None }
+    ensures answers { Answers (K.written out.old) (K.written out.new) (K.faults out.old) (K.faults out.new) (shown_meant run.now) (the_status_of run.now.meant.ending) result.status }
+{
+    match show_meant(alloc, run, out) {
+        Ok(()) => Outcome {
+            status: status_of(run.meant.ending),
+            kept: None,
+        },
+        Err(Refused::Fault(Failed)) => Outcome {
+            status: 9,
+            kept: None,
+        },
+        Err(Refused::NoMemory) => no_memory(None, out),
+    }
+}
+
 // The answer where there is no memory. The status stays where its line can't be put.
 fn no_memory<K: Sink>(kept: Option<RunRecord>, out: &mut K) -> Outcome
     ensures status { result.status ≡ 10 }
@@ -171,11 +212,13 @@ fn no_memory<K: Sink>(kept: Option<RunRecord>, out: &mut K) -> Outcome
     Outcome { status: 10, kept }
 }
 
-/// The whole program: `exec F @all 0 TURNS` or `check F`, where `words` are those after the program's name.
-/// `exec` reads the text of F, compiles its program, runs the image for at most TURNS turns, and writes what the run
-/// shows, a line at a time. `check` writes how many classes and methods the program has. A text is refused at its first
+/// The whole program: `exec F @all 0 TURNS`, `mean F 0 TURNS` or `check F`, where `words` are those after the program's
+/// name. `exec` reads the text of F, compiles its program, runs the image for at most TURNS turns, and writes what the
+/// run shows, a line at a time. `mean` does the same with the program's written meaning in place of an image, and takes
+/// each program that is accepted. `check` writes how many classes and methods the program has. A text is refused at its first
 /// fault, a program at the verifier's first refusal, and `exec` refuses a program that isn't of the first form whole.
-/// Status 0 is a run that came to its end or a program that is accepted, and 5 a run that was cut at TURNS; 1 `Usage`;
+/// Status 0 is a run that came to its end or a program that is accepted, 3 one that ended with an uncaught exception,
+/// 5 one that was cut at TURNS, and 6 one that passed a limit; 1 `Usage`;
 /// 2 `Text L:C CAUSE` with line and column of the fault, or `Text 1:1 FirstForm`; 8 `File NAME`; 9 a fault of the
 /// sink; 10 `No memory`, the one answer without a cause.
 pub fn aot_main<F: Files, K: Sink>(
@@ -230,11 +273,12 @@ pub fn aot_main<F: Files, K: Sink>(
     ensures writes { NeverFall (F.write_faults files.old) (F.write_faults files.new) }
     ensures faults { K.faults out.old ≤ K.faults out.new }
 {
-    let Some((name, turns)) = command(words) else {
+    let Some((name, task)) = command(words) else {
         return reply(1, USAGE, out);
     };
-    match carry_out_file(alloc, name, turns, files) {
+    match carry_out_file(alloc, name, task, files) {
         Ok(Found::Ran(run)) => finish(alloc, run, out),
+        Ok(Found::Meant(run)) => tell(alloc, &run, out),
         Ok(Found::Accepted(verified)) => match accepted_line(alloc, &verified.program) {
             Ok(line) => reply(0, line.as_str(), out),
             Err(NoMemory) => no_memory(None, out),

@@ -18,7 +18,7 @@ pub(crate) const USAGE: &str = "Usage\n";
 
 pub(crate) const NO_MEMORY: &str = "No memory\n";
 
-const TURNS_ARE_USED_UP: &str = "Stopped: Turns\n";
+pub(crate) const TURNS_ARE_USED_UP: &str = "Stopped: Turns\n";
 
 // Puts a line.
 pub(crate) fn put<K: Sink>(out: &mut K, line: &str) -> Result<(), Refused<Failed>>
@@ -80,6 +80,16 @@ fn number_line(alloc: Global, word: u64) -> Result<String, AllocError>
     let mut line = word.cast_signed().to_string(alloc)?;
     line.push_str("\n")?;
     Ok(line)
+}
+
+/// The same as bytes.
+pub(crate) fn number_bytes(alloc: Global, word: u64) -> Result<Vec<u8>, NoMemory>
+    ensures { IfOk result (λ bytes. bytes.items ≡ line_of (Printed Number word)) }
+{
+    match number_line(alloc, word) {
+        Ok(line) => Ok(line.into_bytes()),
+        Err(_) => Err(NoMemory),
+    }
 }
 
 // Puts the line of an event.

@@ -1,4 +1,4 @@
-use Rattle.std.proofs.Common.{◌≡◌, ap, ◌∙◌}
+use Rattle.std.proofs.Common.{◌≡◌, ◌∙◌}
 use Rattle.run_top.proofs.Deepest.{finds}
 use Rattle.run_top.specs.Code.{image_of}
 use Rattle.run_top.proofs.Clauses.{regular, legal, requests, all_executed, few, ends_so}

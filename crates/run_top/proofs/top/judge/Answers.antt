@@ -1,5 +1,4 @@
-use Rattle.std.proofs.Common.{◌≡◌, ◌∙◌, Ok, Err, sym, ap, subst}
-use Rattle.mn_outside.specs.declared.outside.Refused.TheVariants.{Fault}
+use Rattle.std.proofs.Common.{◌≡◌, ◌∙◌, Err, sym, ap, subst}
 use Rattle.il_parse.specs.Answer.{IsAnswer}
 use Rattle.cil_verify.specs.Verifies.{Verifies}
 use Rattle.run_top.specs.declared.refusal.TextRefusal.TheVariants.{Parser, Verifier}

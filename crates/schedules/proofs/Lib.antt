@@ -1,0 +1,4 @@
+pub mod DrawLemmas
+pub mod Following
+pub mod LastLemmas
+pub mod LiveLemmas

@@ -1,0 +1,5 @@
+use Rattle.std.proofs.Common.{◌≡◌, ◌%◌, map, take}
+use Rattle.unshared.proofs.types.low_bytes.Given as goal
+
+abbrev pub invariant-loop-word : goal.invariant-loop-word
+invariant-loop-word l = l.all.items ≡ map (λ w. w % 256) (take l.word-index l.words)
