@@ -6,10 +6,10 @@ mod WidthLemmas
 mod CallLemmas
 mod FillLemmas
 mod KeptLemmas
-mod LeadLemmas
-mod ServiceLemmas
+pub mod LeadLemmas
+pub mod ServiceLemmas
 mod ReplyLemmas
-mod QuietLemmas
+pub mod QuietLemmas
 mod PairLemmas
 mod SpelledLemmas
 mod SlotLemmas

@@ -1,0 +1,39 @@
+use Rattle.std.proofs.Common.{◌≡◌, ◌∙◌, ◌<◌, length, Some, refl, sym, ap, arith}
+use Rattle.std.specs.Prelude.{slice_get}
+use Rattle.std.proofs.lemmas.Option.{slice_get-get_or}
+use Rattle.rgctx_fill.specs.ThreadStates.{image_of}
+use Rattle.thread_core.specs.declared.progress.Progress.{Progress as ProgressHere}
+use Rattle.thread_core.proofs.AtLemmas.{ended_at, went_at, full_at, fault_at, asked_at}
+use Rattle.thread_core.proofs.progress.Progress.turn.Goals as goal
+
+pub returns-then-has_ended : goal.returns-then-has_ended
+returns-then-has_ended c = λ ks made number at split choice.
+    let r = c.args.self.now in
+    let t = c.index.result.now in
+    let within : c.args.thread < length r.threads.items = omega (arith, c.requires.inside, r.threads.ok.0) in
+    let there : slice_get r.threads.items c.args.thread ≡ Some t = slice_get-get_or r.threads.items c.args.thread t within ∙ ap Some (sym c.index.ensures) in
+    ended_at (image_of c.args.image.now) ks made number c.args.thread r at split choice t there (sym c.has_ended.ensures ∙ c.if-has_ended.true)
+
+pub returns-in_ok-note-in-Did : goal.returns-in_ok-note-in-Did
+returns-in_ok-note-in-Did c = λ ks made number at split choice.
+    let r = c.args.self.now in
+    let mid : ProgressHere = record { words = c.turn_at.new.words; world = r.world; started = r.started; threads = c.turn_at.new.threads; schedule = r.schedule; turns = r.turns } in
+    went_at (image_of c.args.image.now) ks made number c.args.thread r at split choice mid c.in_ok-what.field-0 (c.in_ok-what.ensures {u = tt}) refl refl refl refl c.in-Did.what c.in-Did.is c.note.new.self (c.in_ok-note-in-Did.ensures {u = tt})
+
+pub returns-in_ok-ending-in-Ask : goal.returns-in_ok-ending-in-Ask
+returns-in_ok-ending-in-Ask c = λ ks made number at split choice.
+    let r = c.args.self.now in
+    let mid : ProgressHere = record { words = c.turn_at.new.words; world = r.world; started = r.started; threads = c.turn_at.new.threads; schedule = r.schedule; turns = r.turns } in
+    asked_at (image_of c.args.image.now) ks made number c.args.thread r at split choice mid c.in_ok-what.field-0 (c.in_ok-what.ensures {u = tt}) refl refl refl refl c.in-Ask.request c.in-Ask.is c.ask.new.self c.in_ok-ending-in-Ask.ending (c.in_ok-ending-in-Ask.ensures {u = tt})
+
+pub returns-in-Full : goal.returns-in-Full
+returns-in-Full c = λ ks made number at split choice.
+    let r = c.args.self.now in
+    let mid : ProgressHere = record { words = c.turn_at.new.words; world = r.world; started = r.started; threads = c.turn_at.new.threads; schedule = r.schedule; turns = r.turns } in
+    full_at (image_of c.args.image.now) ks made number c.args.thread r at split choice mid c.in_ok-what.field-0 (c.in_ok-what.ensures {u = tt}) refl refl refl refl c.in-Full.region c.in-Full.key c.in-Full.is
+
+pub returns-in-Fault : goal.returns-in-Fault
+returns-in-Fault c = λ ks made number at split choice.
+    let r = c.args.self.now in
+    let mid : ProgressHere = record { words = c.turn_at.new.words; world = r.world; started = r.started; threads = c.turn_at.new.threads; schedule = r.schedule; turns = r.turns } in
+    fault_at (image_of c.args.image.now) ks made number c.args.thread r at split choice mid c.in_ok-what.field-0 (c.in_ok-what.ensures {u = tt}) refl refl refl refl c.in-Fault.fault c.in-Fault.is
