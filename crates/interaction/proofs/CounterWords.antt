@@ -140,7 +140,7 @@ run_laws = record {
   begin_grows = begin-grows AtBeginning (starts_at AtSettling);
   begin_holds = λ w h u s fits e. begin_all (Holds w) AtBeginning (starts_at AtSettling) tt (started_holds w) h u s e;
   later_holds = later_holds;
-  turn_fits = turn_fits;
+  turn_fits = λ w v s t turn fits h g m wr silent. turn_fits w v s t turn fits h g m wr;
   claims_right = λ w s fits h. claims_right w s fits;
   known_stands = known_stands;
 }

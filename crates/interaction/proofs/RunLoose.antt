@@ -193,7 +193,7 @@ module _ {R Y S X : Type 0} (m : Machine R Y S X) where
 
     pub moved_sane : (x : World R Y S X) (u : ℕ) (s : S) (x' : World R Y S X) → state_of m x u ≡ Some s → Moved m x u s (m.want s) x' → Sane x → Sane x'
     moved_sane x u s x' is (quiet turn t w mk g wr r n) sane =
-        let ok = law.turn_fits x.words w s t turn sane.fits (sane.holds u s is) g mk wr in
+        let ok = law.turn_fits x.words w s t turn sane.fits (sane.holds u s is) g mk wr n in
         record {
           runs = moved_runs law.begin_grows x u s _ is (quiet turn t w mk g wr r n) sane.runs;
           fits = ok.0;
@@ -202,7 +202,7 @@ module _ {R Y S X : Type 0} (m : Machine R Y S X) where
         }
     moved_sane x u s x' is (spoke r z t mk a) sane =
         let same = grows_self (slice_index x.words) in
-        let ok = law.turn_fits x.words x.words s t (Asked (record { request = r; reply = z })) sane.fits (sane.holds u s is) same mk (nothing refl) in
+        let ok = law.turn_fits x.words x.words s t (Asked (record { request = r; reply = z })) sane.fits (sane.holds u s is) same mk (nothing refl) (λ i e. absurd e) in
         record {
           runs = moved_runs law.begin_grows x u s _ is (spoke r z t mk a) sane.runs;
           fits = ok.0;

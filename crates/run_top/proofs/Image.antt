@@ -103,7 +103,7 @@ machine_laws image words = record {
   begin_grows = λ d r u s e. begin-grows (start words) (starts (start words)) d r u s e;
   begin_holds = λ w h u s f e. tt;
   later_holds = λ w v s g h. tt;
-  turn_fits = λ w v s t turn f h g m wr. (tt, tt);
+  turn_fits = λ w v s t turn f h g m wr silent. (tt, tt);
   claims_right = λ w s f h. claims_none image w s;
   known_stands = λ w v s t turns i f g ts k. absurd k;
 }

@@ -100,7 +100,7 @@ module _ (p : Program) (n : Naming Mention TExpr) where
     begin_grows = λ d r u s e. process-grows (main_frames p) (starts p) d r u s e;
     begin_holds = λ w h u s fits e. tt;
     later_holds = λ w v s g h. tt;
-    turn_fits = λ w v s t turn fits holds g m wrote. (tt, tt);
+    turn_fits = λ w v s t turn fits holds g m wrote silent. (tt, tt);
     claims_right = λ w s fits holds. no_claims w (silent n (begun n p s));
     known_stands = λ w v s t turns i fits g ts known. absurd known;
   }
