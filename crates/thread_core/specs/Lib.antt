@@ -5,3 +5,5 @@ pub mod Stepped
 pub mod Runs
 pub mod Listed
 pub mod Reached
+pub mod Known
+pub mod Sound

@@ -1,0 +1,4 @@
+//! Images of compiled bodies are sound.
+#![tactic(auto)]
+
+pub use mn_outside::NoMemory;
