@@ -36,7 +36,7 @@ use Rattle.rgctx_fill.specs.FillServices.{fills_next, begins_within, begins_entr
 use Rattle.rgctx_fill.specs.Services.{first, second, third, serves_as, serves_if, serves}
 use Rattle.rgctx_fill.specs.ThreadTurns.{move_of}
 use Rattle.rgctx_fill.specs.Moves.{IsReplied}
-use Rattle.rt_service.specs.GoingOn.{HasNoFill}
+use Rattle.rt_service.specs.GoingOn.{IsOnward}
 use Rattle.rt_service.proofs.LeadLemmas.{Leads, Any, Gives, replied_of}
 use Rattle.rt_service.proofs.ServiceLemmas.{numbered_led, tree_led, slot_led, assignable_led, element_led, call_led, return_led, reference_led, requested}
 use Rattle.rt_service.specs.Replies.{raise_replied, throw_replied, service_replied, replied_to}
@@ -52,7 +52,7 @@ module _ (reply : Reply) (new : ThreadData) where
   abbrev Led : Move → Type 0
   Led m = Leads Any (Gives reply new) m
 
-  any : (t : ThreadData) → HasNoFill t.doing → Any t
+  any : (t : ThreadData) → IsOnward t.doing → Any t
   any t none = tt
 
   module _ (s : ThreadData) where

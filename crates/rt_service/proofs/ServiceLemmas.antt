@@ -32,10 +32,10 @@ use Rattle.rgctx_fill.specs.NodeReadings.{is_node_number, numbered, is_type_word
 use Rattle.rgctx_fill.specs.StoreServices.{string_leaf, past_32, asks, index_in, number_in, swaps_frame, with_string, with_object, by_reference, prints_string, prints, allocates, types_of, measures, starts, ends, in_frame, in_object, in_statics, with_pointer, loads, saves, exchanges, compares, adds_at, adds}
 use Rattle.rgctx_fill.specs.TypeServices.{is_vector_word, slot_found, finds, finds_slot, judges_assignable, finds_element}
 use Rattle.rgctx_fill.specs.CallServices.{argument_widths, are_there, takes_result, calls_body, calls_interpreter, enters, calls_row, calls_method, calls_tree, calls, level_at, returned_to, returns_to, returns, row_entered}
-use Rattle.rt_service.specs.GoingOn.{HasNoFill}
+use Rattle.rt_service.specs.GoingOn.{IsOnward}
 use Rattle.rt_service.proofs.LeadLemmas.{Leads}
 
-module _ (P : ThreadData → Type 0) (Q : (Reply → ThreadData) → Type 0) (quiet : (t : ThreadData) → HasNoFill t.doing → P t) where
+module _ (P : ThreadData → Type 0) (Q : (Reply → ThreadData) → Type 0) (quiet : (t : ThreadData) → IsOnward t.doing → P t) where
   abbrev pub Led : Move → Type 0
   Led m = Leads P Q m
 
@@ -105,7 +105,7 @@ module _ (P : ThreadData → Type 0) (Q : (Reply → ThreadData) → Type 0) (qu
       pub element_led : (n : ℕ) → Led (finds_element im s n)
       element_led n = numbered_led n _ (λ word. either (is_vector_word word) (move.Goes noted.Action (given s (node_read word).first)) (refuses s) (quiet (given s (node_read word).first) tt) tt)
 
-      entered : (b : Bool) (t : ThreadData) → HasNoFill t.doing → P (if b then now_doing s (Stops cause.Depth) else t)
+      entered : (b : Bool) (t : ThreadData) → IsOnward t.doing → P (if b then now_doing s (Stops cause.Depth) else t)
       entered true t none = quiet (now_doing s (Stops cause.Depth)) tt
       entered false t none = quiet t none
 
@@ -126,7 +126,7 @@ module _ (P : ThreadData → Type 0) (Q : (Reply → ThreadData) → Type 0) (qu
       pub call_led : (value result list : ℕ) → Led (calls im s value result list)
       call_led value result list = tree_led (value % 65536) (calls_tree im s (value % 65536) result list (value / 65536)) (called_led (value % 65536) result list (value / 65536))
 
-    back_quiet : (b : Bool) → HasNoFill (if b then Interprets else Runs)
+    back_quiet : (b : Bool) → IsOnward (if b then Interprets else Runs)
     back_quiet true = tt
     back_quiet false = tt
 
