@@ -1,2 +1,0 @@
-pub mod PlainForms
-pub mod CompiledImage
