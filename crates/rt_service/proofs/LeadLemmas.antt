@@ -8,7 +8,7 @@ use Rattle.rgctx_fill.specs.ThreadStates as move
 use Rattle.rgctx_fill.specs.Moves.{Span, IsMade, IsReplied}
 use Rattle.rt_service.specs.GoingOn.{HasNoFill}
 
--- a private turn leads to states of one kind, and a request has a reply of another; no word is loaded or claimed
+-- a private turn leads to states of one kind, and a request has a reply of another; no word is loaded or claimed, and the thread isn't over
 abbrev pub Leads : (ThreadData → Type 0) → ((Reply → ThreadData) → Type 0) → Move → Type 0
 Leads P Q (move.Goes what t) = P t
 Leads P Q (move.Reads i next) = (word : ℕ) → Leads P Q (next word)
@@ -17,7 +17,7 @@ Leads P Q (move.Claims i word next) = ⊥
 Leads P Q (move.Asks request next) = Q next
 Leads P Q (move.IsFull region key) = Unit {0}
 Leads P Q (move.Faults fault) = Unit {0}
-Leads P Q move.IsOver = Unit {0}
+Leads P Q move.IsOver = ⊥
 
 abbrev pub Any : ThreadData → Type 0
 Any t = Unit {0}

@@ -6,10 +6,11 @@ use Rattle.std.proofs.lemmas.Option.{slice_get_within}
 use Rattle.interaction.specs.declared.history.Event.{Event}
 use Rattle.interaction.specs.declared.turn.What.{What}
 use Rattle.interaction.specs.declared.turn.What.TheVariants as noted
-use Rattle.interaction.specs.Object.{Answers, live_threads}
+use Rattle.interaction.specs.Object.{Answers, is_active, live_threads}
+use Rattle.interaction.specs.RunLaws.{ClaimsRight}
 use Rattle.interaction.specs.Run.{chosen, turned, Ends, Idle, StuckAt}
 use Rattle.interaction.specs.Run as running
-use Rattle.interaction.proofs.Choosing.{chosen_lives}
+use Rattle.interaction.proofs.Choosing.{chosen_lives, chosen_none}
 use Rattle.mn_outside.specs.declared.machine.MachineFault.{MachineFault}
 use Rattle.mn_outside.specs.declared.places.Region.{Region}
 use Rattle.rgctx_words.specs.Regions.{word_count}
@@ -43,14 +44,16 @@ use Rattle.thread_core.specs.declared.record.Turn.{Turn as TurnHere}
 use Rattle.thread_core.specs.declared.progress.Progress.{Progress as ProgressHere}
 use Rattle.thread_core.specs.Going.{IsGoing, has_ended}
 use Rattle.thread_core.specs.Listed.{Listed, IsListed, claims_of}
-use Rattle.thread_core.specs.Reached.{AreMet, AreFine, IsReady, Reached, IsAt, HasEnded, GoesOnOrEnds, Turned, begun_of, Spoke, Refused, SpokeOrRefused, IsNoted, IsDrawn}
+use Rattle.thread_core.specs.Reached.{AreMet, AreFine, AreBusy, IsReady, Reached, IsAt, HasEnded, GoesOnOrEnds, Turned, begun_of, Spoke, Refused, SpokeOrRefused, IsNoted, IsDrawn}
 use Rattle.thread_core.specs.Runs.{machine_of, improper_fault, ending_at, draws_of}
 use Rattle.thread_core.specs.Starts.{starts}
+use Rattle.thread_core.proofs.ClaimLemmas.{claims_right}
 use Rattle.thread_core.proofs.CountLemmas.{starts_says, count_none, count_one}
+use Rattle.thread_core.proofs.FollowLemmas.{going_on}
 use Rattle.thread_core.proofs.KeptLemmas.{kept, one-put}
 use Rattle.thread_core.proofs.MoveLemmas.{Went, Asking, HasNone, Comes, turn_comes}
 use Rattle.thread_core.proofs.Places.{get-set, get-push}
-use Rattle.thread_core.proofs.ReachLemmas.{nobody, stops_here, reached_went, improper_here, halted_here, reached_spoken}
+use Rattle.thread_core.proofs.ReachLemmas.{nobody, stops_here, so_here, reached_went, improper_here, halted_here, reached_spoken}
 
 -- who has not ended goes on
 pub going-of : (cat : CatData) (held : ℕ → ℕ) (d : Doing) → has_ended d ≡ false → ((f : FillData) → d ≡ Fills f → IsUnderWay cat held f) → IsGoing cat held d
@@ -64,18 +67,6 @@ going-of cat held Refuses on fine = tt
 going-of cat held (Stops why) on fine = tt
 going-of cat held Finishes on fine = tt
 going-of cat held Ended on fine = absurd (cc on)
-
-ended_doing : (d : Doing) → has_ended d ≡ true → d ≡ Ended
-ended_doing Runs e = absurd (cc e)
-ended_doing Serves e = absurd (cc e)
-ended_doing (Fills f) e = absurd (cc e)
-ended_doing Interprets e = absurd (cc e)
-ended_doing (Throws x) e = absurd (cc e)
-ended_doing (Searches x) e = absurd (cc e)
-ended_doing Refuses e = absurd (cc e)
-ended_doing (Stops why) e = absurd (cc e)
-ended_doing Finishes e = absurd (cc e)
-ended_doing Ended e = refl
 
 -- a place that gets what it has
 set_itself : (xs : List ThreadData) (u : ℕ) (x : ThreadData) → slice_get xs u ≡ Some x → slice_set xs u x ≡ xs
@@ -102,26 +93,13 @@ reached_as im ks made threads threads' l l' h h' ts ts' a b c d r =
 fine_later : (cat : CatData) (words words' : List ℕ) → Grows (slice_index words) (slice_index words') → (f : FillData) → IsUnderWay cat (slice_index words) f → IsUnderWay cat (slice_index words') f
 fine_later cat words words' grows f way = (way.0, ready-grows cat (slice_index words) (slice_index words') f way.1 grows)
 
+-- who lives goes on
+pub busy_of : (im : ImageData) (ks : List ℕ) (made : ℕ) (threads : List ThreadData) (l : Listed) (h : List (Event Request Reply)) (ts : List TurnHere) → Reached im ks made threads l h ts → AreBusy h threads
+busy_of im ks made threads l h ts r u s e lives = going_on im r.world u s (ap (λ x. is_active store x u) r.store_is ∙ lives) (r.each u ∙ e) r.followed
+
 module _ (im : ImageData) (ks : List ℕ) (made k u : ℕ) (r : ProgressHere) (at : IsAt im ks made (made + 1) r) (split : drop made ks ≡ k ∷ drop (made + 1) ks) (choice : chosen (live_threads store (replayed r.world.history)) k ≡ Some u) where
   schedule_at : r.schedule.items ≡ take (suc made) ks
   schedule_at = let e : made + 1 ≡ suc made = omega arith in at.schedule ∙ ap (λ n. take n ks) e
-
-  -- who was chosen has ended
-  pub ended_at : (s : ThreadData) → slice_get r.threads.items u ≡ Some s → has_ended s.doing ≡ true → HasEnded im ks made r ends.Done
-  ended_at s there ended = record {
-    world = at.reached.world;
-    ending = running.Idle u;
-    whole = stops_here im ks made k r.threads.items r.words r.world.history r.turns.items at.reached split u s choice there (running.Idle u)
-        (ap (λ d. turned (machine_of im) at.reached.world u s (plain (move_of im s d))) (ended_doing s.doing ended));
-    named = refl;
-    history_is = at.reached.history_is;
-    words_are = at.reached.words_are;
-    claims_are = at.reached.claims_are;
-    turns_are = at.reached.turns_are;
-    count = at.reached.count;
-    met = at.ready.met;
-    schedule = schedule_at;
-  }
 
   module _ (mid : ProgressHere) (said : Want) (t : Turned im u r.threads.items mid.threads.items r.words mid.words said)
       (world : mid.world ≡ r.world) (started : mid.started ≡ r.started) (schedule : mid.schedule.items ≡ r.schedule.items) (turns : mid.turns.items ≡ r.turns.items) where
@@ -143,6 +121,9 @@ module _ (im : ImageData) (ks : List ℕ) (made k u : ℕ) (r : ProgressHere) (a
         (subst (λ ws. IsGoing im.cat (slice_index ws) t.was.doing) (sym at.reached.words_are) t.going) said t.now
         (subst (λ ws. IsMade im.cat (span true (slice_index ws) (slice_index mid.words.words) (Some (claims_of r.words)) (Some (claims_of mid.words))) t.was (next_move im t.was) said t.now) (sym at.reached.words_are) t.made)
 
+    right : ClaimsRight at.reached.world.words ((machine_of im).want t.was)
+    right = claims_right im at.reached.world.words (ap length at.reached.words_are ∙ at.ready.listed.count) t.was (subst (λ ws. IsGoing im.cat (slice_index ws) t.was.doing) (sym at.reached.words_are) t.going)
+
     inside : u < length r.threads.items
     inside = slice_get_within r.threads.items u t.was t.there
 
@@ -160,11 +141,14 @@ module _ (im : ImageData) (ks : List ℕ) (made k u : ℕ) (r : ProgressHere) (a
         let w : Went im at.reached.world u t.was mid.words.words (claims_of r.words) (claims_of mid.words) what t.now (next_move im t.was) = subst CameTo is came in
         let history : new.world.history ≡ r.world.history = ap (λ v. v.history) (noted.world ∙ world) in
         let threads : new.threads.items ≡ slice_set r.threads.items u t.now = noted.threads ∙ t.set in
+        let reached : Reached im ks (made + 1) new.threads.items new.words new.world.history new.turns.items =
+        reached_as im ks (made + 1) (slice_set r.threads.items u t.now) new.threads.items mid.words new.words r.world.history new.world.history (r.turns.items ++ record { thread = u; what = what } ∷ []) new.turns.items
+        threads noted.words history (noted.turns ∙ ap (λ (l : List TurnHere). l ++ record { thread = u; what = what } ∷ []) turns)
+        (reached_went im ks made k r.threads.items r.words r.world.history r.turns.items at.reached split u t.was choice t.there at.ready.met t.now mid.words what w) in
         record {
-          reached = reached_as im ks (made + 1) (slice_set r.threads.items u t.now) new.threads.items mid.words new.words r.world.history new.world.history (r.turns.items ++ record { thread = u; what = what } ∷ []) new.turns.items
-              threads noted.words history (noted.turns ∙ ap (λ (l : List TurnHere). l ++ record { thread = u; what = what } ∷ []) turns)
-              (reached_went im ks made k r.threads.items r.words r.world.history r.turns.items at.reached split u t.was choice t.there t.now mid.words what w);
+          reached = reached;
           ready = record {
+            busy = busy_of im ks (made + 1) new.threads.items new.words new.world.history new.turns.items reached;
             fine = λ v s e f fills. subst (λ (l : Listed). IsUnderWay im.cat (slice_index l.words) f) (sym noted.words) (fine_set v s (ap (λ ts. slice_get ts v) (sym threads) ∙ e) f fills);
             met = subst (λ (l : Listed). AreMet im.cat l.words) (sym noted.words) t.met;
             listed = subst IsListed (sym noted.words) t.listed;
@@ -188,6 +172,8 @@ module _ (im : ImageData) (ks : List ℕ) (made k u : ℕ) (r : ProgressHere) (a
       count = at.reached.count;
       met = t.met;
       schedule = schedule ∙ schedule_at ∙ ap (λ m. take m ks) (sym (n.draws made));
+      followed = at.reached.followed;
+      so = so_here im ks made k r.threads.items r.words r.world.history r.turns.items at.reached split u t.was choice t.there n.ending right n.stops;
     }
 
     pub full_at : (region : Region) (key : ℕ) → said ≡ answers.Full region key → HasEnded im ks made mid (ends.Full region key)
@@ -236,6 +222,8 @@ module _ (im : ImageData) (ks : List ℕ) (made k u : ℕ) (r : ProgressHere) (a
             count = at.reached.count;
             met = subst (λ (l : Listed). AreMet im.cat l.words) (sym (f.words ∙ same_words)) at.ready.met;
             schedule = f.schedule ∙ schedule ∙ schedule_at ∙ ap (λ m. take m ks) (sym draws);
+            followed = at.reached.followed;
+            so = so_here im ks made k r.threads.items r.words r.world.history r.turns.items at.reached split u t.was choice t.there ending right stops;
           }
 
           improper : (store.is_improper (store.reply (replayed mid.world.history) u q) ≡ true) × (e ≡ ends.Fault (improper_fault f.was)) → HasEnded im ks made new e
@@ -306,12 +294,15 @@ module _ (im : ImageData) (ks : List ℕ) (made k u : ℕ) (r : ProgressHere) (a
         pub spoke_at : IsAt im ks (made + 1) (made + 1) new
         spoke_at =
             let words : new.words ≡ r.words = f.words ∙ same_words in
+            let reached : Reached im ks (made + 1) new.threads.items new.words new.world.history new.turns.items =
+            reached_as im ks (made + 1) (slice_set r.threads.items u f.replied.now ++ begun_of (starts im q f.reply)) new.threads.items r.words new.words (r.world.history ++ event ∷ []) new.world.history
+            (r.turns.items ++ record { thread = u; what = noted.Action } ∷ []) new.turns.items threads_are words history_is (f.turns ∙ ap (λ (l : List TurnHere). l ++ record { thread = u; what = noted.Action } ∷ []) turns)
+            (reached_spoken im ks made k r.threads.items r.words r.world.history r.turns.items at.reached split u t.was choice t.there q t.now mid.words asking f.reply answered f.replied.now
+            (subst (λ s. IsReplied (next_move im s) f.reply f.replied.now) was_same f.replied.replied) at.ready.met next_number) in
             record {
-              reached = reached_as im ks (made + 1) (slice_set r.threads.items u f.replied.now ++ begun_of (starts im q f.reply)) new.threads.items r.words new.words (r.world.history ++ event ∷ []) new.world.history
-                  (r.turns.items ++ record { thread = u; what = noted.Action } ∷ []) new.turns.items threads_are words history_is (f.turns ∙ ap (λ (l : List TurnHere). l ++ record { thread = u; what = noted.Action } ∷ []) turns)
-                  (reached_spoken im ks made k r.threads.items r.words r.world.history r.turns.items at.reached split u t.was choice t.there q t.now mid.words asking f.reply answered f.replied.now
-                  (subst (λ s. IsReplied (next_move im s) f.reply f.replied.now) was_same f.replied.replied) next_number);
+              reached = reached;
               ready = record {
+                busy = busy_of im ks (made + 1) new.threads.items new.words new.world.history new.turns.items reached;
                 fine = λ v s e g is. subst (λ (l : Listed). IsUnderWay im.cat (slice_index l.words) g) (sym words) (fine_begun (starts im q f.reply) refl v s (ap (λ ts. slice_get ts v) (sym threads_are) ∙ e) g is);
                 met = subst (λ (l : Listed). AreMet im.cat l.words) (sym words) at.ready.met;
                 listed = subst IsListed (sym words) at.ready.listed;
@@ -333,6 +324,7 @@ drawn_ready im k r next ready d =
     let history : next.world.history ≡ r.world.history = ap (λ v. v.history) d.world in
     record {
       fine = λ v s e f is. subst (λ (l : Listed). IsUnderWay im.cat (slice_index l.words) f) (sym d.words) (ready.fine v s (ap (λ ts. slice_get ts v) (sym d.threads) ∙ e) f is);
+      busy = λ v s e lives. ready.busy v s (ap (λ ts. slice_get ts v) (sym d.threads) ∙ e) (ap (λ h. is_active store (replayed h) v) (sym history) ∙ lives);
       met = subst (λ (l : Listed). AreMet im.cat l.words) (sym d.words) ready.met;
       listed = subst IsListed (sym d.words) ready.listed;
       lives = subst (λ h. HasStarted next.started (replayed h)) (sym history) (subst (λ s. HasStarted s (replayed r.world.history)) (sym d.started) ready.lives);
@@ -354,6 +346,8 @@ module _ (im : ImageData) (ks : List ℕ) (made k : ℕ) (r : ProgressHere) (at 
     count = at.reached.count;
     met = at.ready.met;
     schedule = at.schedule;
+    followed = at.reached.followed;
+    so = chosen_none (live_threads store at.reached.world.store) k (ap (λ s. chosen (live_threads store s) k) at.reached.store_is ∙ none);
   }
 
   -- the number is noted

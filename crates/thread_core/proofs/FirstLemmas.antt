@@ -16,9 +16,9 @@ use Rattle.store_object.specs.Store.{opening}
 use Rattle.store_object.proofs.Histories.{replayed_nothing}
 use Rattle.thread_core.specs.declared.progress.Progress.{Progress as ProgressHere}
 use Rattle.thread_core.specs.Listed.{IsListed}
-use Rattle.thread_core.specs.Reached.{AreMet, IsAt}
+use Rattle.thread_core.specs.Reached.{AreMet, Reached, IsAt}
 use Rattle.thread_core.specs.Starts.{main_in, main_thread}
-use Rattle.thread_core.proofs.AtLemmas.{reached_as}
+use Rattle.thread_core.proofs.AtLemmas.{reached_as, busy_of}
 use Rattle.thread_core.proofs.ReachLemmas.{reached_first}
 
 -- words that are given by their indexes
@@ -41,9 +41,9 @@ pub at_first : (im : ImageData) (ks : List ℕ) (r : ProgressHere) (first : Thre
     → length r.words.words ≡ word_count → ((i : ℕ) → slice_index r.words.words i ≡ opening_word im.cat.program i) → r.words.claimed ≡ [] → IsListed r.words → AreMet im.cat r.words.words
     → HasStarted r.started opening → r.world.history ≡ [] → r.schedule.items ≡ [] → r.turns.items ≡ [] → IsAt im ks 0 0 r
 at_first im ks r first threads main count words claimed listed met lives history schedule turns = record {
-  reached = reached_as im ks 0 (main_thread im ∷ []) r.threads.items r.words r.words [] r.world.history [] r.turns.items here refl history turns
-      (reached_first im ks r.words (words_by (opening_word im.cat.program) r.words.words word_count count words) claimed);
+  reached = reached;
   ready = record {
+    busy = busy_of im ks 0 r.threads.items r.words r.world.history r.turns.items reached;
     fine = λ u s e. by_place u s (ap (λ ts. slice_get ts u) (sym here) ∙ e);
     met = met;
     listed = listed;
@@ -55,6 +55,10 @@ at_first im ks r first threads main count words claimed listed met lives history
   where
     here : r.threads.items ≡ main_thread im ∷ []
     here = threads ∙ ap (λ t. t ∷ []) main
+
+    reached : Reached im ks 0 r.threads.items r.words r.world.history r.turns.items
+    reached = reached_as im ks 0 (main_thread im ∷ []) r.threads.items r.words r.words [] r.world.history [] r.turns.items here refl history turns
+        (reached_first im ks r.words (words_by (opening_word im.cat.program) r.words.words word_count count words) claimed)
 
     by_place : (u : ℕ) (s : ThreadData) → slice_get (main_thread im ∷ []) u ≡ Some s → (f : FillData) → s.doing ≡ Fills f → IsUnderWay im.cat (slice_index r.words.words) f
     by_place zero s e f is =

@@ -15,6 +15,12 @@ mod ReachLemmas
 mod AtLemmas
 mod FillNotes
 mod WholeLemmas
+mod FaithLemmas
 mod ObjectLemmas
 mod FirstLemmas
 mod AskLemmas
+mod EndedLemmas
+mod BusyLemmas
+mod KnownLemmas
+mod FollowLemmas
+mod ClaimLemmas

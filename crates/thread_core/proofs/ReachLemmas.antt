@@ -1,5 +1,5 @@
 -- The run, from what the code has of it after so many turns.
-use Rattle.std.proofs.Common.{◌≡◌, ◌∙◌, ℕ, zero, suc, ◌+◌, ◌<◌, ◌≤◌, List, [], ◌∷◌, ◌++◌, length, map, drop, Bool, true, false, Option, Some, None, slice_get, slice_set, if◌then◌else◌, ◌==◌, refl, sym, ap, arith, eqb-true, eq-eqb, length-set, length-append, append-nil}
+use Rattle.std.proofs.Common.{◌≡◌, ◌∙◌, ℕ, zero, suc, ◌+◌, ◌<◌, ◌≤◌, List, [], ◌∷◌, ◌++◌, length, map, drop, Bool, true, false, Option, Some, None, slice_get, slice_set, if◌then◌else◌, ◌==◌, refl, sym, ap, subst, arith, eqb-true, eq-eqb, length-set, length-append, append-nil}
 use Rattle.std.proofs.lemmas.List.{map-append, append_assoc}
 use Rattle.std.proofs.lemmas.Option.{slice_get_within, slice_get_past}
 use Rattle.std.proofs.lemmas.Bool.Decides.{nat_tests}
@@ -7,7 +7,11 @@ use Rattle.interaction.specs.declared.history.Event.{Event}
 use Rattle.interaction.specs.declared.turn.What.{What}
 use Rattle.interaction.specs.declared.turn.What.TheVariants as noted
 use Rattle.interaction.specs.Thread.{Turn, Asked, what_of}
-use Rattle.interaction.specs.Object.{Answers, live_threads}
+use Rattle.interaction.specs.Endings.{EndsSo}
+use Rattle.interaction.specs.Object.{Answers, is_active, live_threads}
+use Rattle.interaction.specs.RunLaws.{ClaimsRight}
+use Rattle.interaction.proofs.Choosing.{chosen_lives}
+use Rattle.schedules.proofs.DrawLemmas.{inside_of}
 use Rattle.interaction.specs.Starts.{begun_by}
 use Rattle.interaction.specs.Run.{World, Taken, Moves, Ends, StuckAt, Idle, chosen, first_of, state_of, moved_on, spoken, asked, turned, opening, run_from, run, put_by, claims_in}
 use Rattle.interaction.specs.Run as running
@@ -21,10 +25,11 @@ use Rattle.store_object.specs.Replay.{store, replayed}
 use Rattle.store_object.proofs.Histories.{replayed-push, replayed_nothing}
 use Rattle.thread_core.specs.declared.record.Turn.{Turn as TurnHere}
 use Rattle.thread_core.specs.Listed.{Listed, claim_at, claims_of}
-use Rattle.thread_core.specs.Reached.{Reached, begun_of}
+use Rattle.thread_core.specs.Reached.{AreMet, Reached, begun_of}
 use Rattle.thread_core.specs.Runs.{opening_words, machine_of, notes_of}
 use Rattle.thread_core.specs.Starts.{main_thread, starts, begin}
 use Rattle.thread_core.proofs.Begun.{begin_of-push}
+use Rattle.thread_core.proofs.FollowLemmas.{followed_on, followed_first, ended_so}
 use Rattle.thread_core.proofs.MoveLemmas.{Went, Asking}
 use Rattle.thread_core.proofs.Places.{get-set, get-push}
 use Rattle.thread_core.proofs.RunSteps.{none_step, moves_step, ends_step, asked_by, quiet_state, spoken_state}
@@ -69,6 +74,8 @@ module _ (im : ImageData) (ks : List ℕ) where
     turns_are = refl;
     count = refl;
     each = at_first;
+    within = omega arith;
+    followed = followed_first im (opening_words im.cat.program);
   }
     where
       at_first : (u : ℕ) → state_of (machine_of im) (opening (machine_of im) (opening_words im.cat.program)) u ≡ slice_get (main_thread im ∷ []) u
@@ -93,6 +100,16 @@ module _ (im : ImageData) (ks : List ℕ) where
       state_here : state_of (machine_of im) r.world u ≡ Some s
       state_here = r.each u ∙ there
 
+      lives_here : is_active store r.world.store u ≡ true
+      lives_here = chosen_lives store r.world.store k u chosen_here
+
+      early_here : made < length ks
+      early_here = inside_of ks (drop (made + 1) ks) made k split
+
+      -- no turn, so the run ends as a run ends
+      pub so_here : (e : running.Ending ThreadData) → ClaimsRight r.world.words ((machine_of im).want s) → turned (machine_of im) r.world u s ((machine_of im).want s) ≡ Ends e → EndsSo (machine_of im) (length ks) r.world e
+      so_here e right stops = ended_so im r.world (length ks) u s e right (subst (λ n. n < length ks) (sym r.count) early_here) lives_here state_here stops r.followed
+
       -- no turn
       pub stops_here : (e : running.Ending ThreadData) → turned (machine_of im) r.world u s ((machine_of im).want s) ≡ Ends e → run (machine_of im) ks (opening_words im.cat.program) ≡ record { world = r.world; ending = e }
       stops_here e stops = begun_at ∙ ends_step (machine_of im) k (drop (made + 1) ks) r.world u s chosen_here state_here e stops
@@ -110,8 +127,8 @@ module _ (im : ImageData) (ks : List ℕ) where
       counted turn = length-append r.world.turns (record { thread = u; turn = turn } ∷ []) ∙ ap (λ n. n + 1) r.count
 
       -- a turn that is no request
-      pub reached_went : (t : ThreadData) (n : Listed) (what : What) → Went im r.world u s n.words (claims_of l) (claims_of n) what t (next_move im s) → Reached im ks (made + 1) (slice_set threads u t) n h (turns ++ record { thread = u; what = what } ∷ [])
-      reached_went t n what w = record {
+      pub reached_went : AreMet im.cat l.words → (t : ThreadData) (n : Listed) (what : What) → Went im r.world u s n.words (claims_of l) (claims_of n) what t (next_move im s) → Reached im ks (made + 1) (slice_set threads u t) n h (turns ++ record { thread = u; what = what } ∷ [])
+      reached_went met t n what w = record {
         world = moved_on r.world u t w.turn n.words;
         same = begun_at ∙ moves_step (machine_of im) k (drop (made + 1) ks) r.world u s chosen_here state_here (moved_on r.world u t w.turn n.words) w.moves;
         history_is = r.history_is;
@@ -121,6 +138,8 @@ module _ (im : ImageData) (ks : List ℕ) where
         turns_are = notes_more w.turn what w.noted;
         count = counted w.turn;
         each = λ v. quiet_state (machine_of im) r.world u v t w.turn n.words ∙ moved_each t v;
+        within = omega (arith, early_here);
+        followed = followed_on im r.world u s (moved_on r.world u t w.turn n.words) (subst (AreMet im.cat) (sym r.words_are) met) lives_here state_here w.moves r.followed;
       }
 
       module _ (q : Request) (now : ThreadData) (n : Listed) (a : Asking im r.world u s n.words (claims_of l) (claims_of n) q now (next_move im s)) where
@@ -180,9 +199,9 @@ module _ (im : ImageData) (ks : List ℕ) where
                   none_both (r.world.moved v) (begin im r.world.history v) (Some c.1) absent
               rest false e = first_none (r.world.moved v) (begin im r.world.history v) ∙ r.each v
 
-          pub reached_spoken : ((c : ℕ × ThreadData) → starts im q y ≡ Some c → c.0 ≡ length threads)
+          pub reached_spoken : AreMet im.cat l.words → ((c : ℕ × ThreadData) → starts im q y ≡ Some c → c.0 ≡ length threads)
               → Reached im ks (made + 1) (slice_set threads u t ++ begun_of (starts im q y)) l (h ++ event ∷ []) (turns ++ record { thread = u; what = noted.Action } ∷ [])
-          reached_spoken next = record {
+          reached_spoken met next = record {
             world = after;
             same = begun_at ∙ moves_step (machine_of im) k (drop (made + 1) ks) r.world u s chosen_here state_here after step;
             history_is = ap (λ (e : List (Event Request Reply)). e ++ event ∷ []) r.history_is;
@@ -195,4 +214,6 @@ module _ (im : ImageData) (ks : List ℕ) where
                 spoken_state (machine_of im) r.world u v t q y
                 ∙ ap (λ o. if v == u then Some t else first_of (r.world.moved v) o) (begin_of-push (starts im) (main_thread im) r.world.history event v)
                 ∙ each_other (starts im q y) next v;
+            within = omega (arith, early_here);
+            followed = followed_on im r.world u s after (subst (AreMet im.cat) (sym r.words_are) met) lives_here state_here step r.followed;
           }

@@ -30,7 +30,7 @@ use Rattle.rgctx_fill.specs.Templates.{tree_template}
 use Rattle.rgctx_fill.specs.ThreadStates.{ImageData, ThreadData, Move}
 use Rattle.rgctx_fill.specs.ThreadStates as move
 use Rattle.rgctx_fill.specs.ThreadTurns.{move_of}
-use Rattle.rt_service.specs.GoingOn.{HasNoFill}
+use Rattle.rt_service.specs.GoingOn.{HasNoFill, IsOnward}
 use Rattle.rt_service.proofs.LeadLemmas.{Leads, Any, Quiet, AnyReply}
 use Rattle.rt_service.proofs.QuietLemmas.{quiet_as}
 use Rattle.rt_service.proofs.ServiceLemmas.{tree_led}
@@ -96,7 +96,7 @@ word_tame s (Some word) = decoded_tame s word (decode_of word)
 -- ---- services
 
 module _ (im : ImageData) (s : ThreadData) where
-  any : (t : ThreadData) → HasNoFill t.doing → Any t
+  any : (t : ThreadData) → IsOnward t.doing → Any t
   any t none = tt
 
   abbrev LeadsAny : Move → Type 0

@@ -1,5 +1,5 @@
 -- What a record of a run says, from where the code has come.
-use Rattle.std.proofs.Common.{◌≡◌, ◌∙◌, ℕ, List, [], ◌∷◌, take, drop, None, refl, sym, ap, subst}
+use Rattle.std.proofs.Common.{◌≡◌, ◌∙◌, ℕ, zero, suc, ◌≤◌, List, [], ◌∷◌, length, take, drop, None, refl, sym, ap, subst, arith}
 use Rattle.std.specs.Prelude.{filter_map, slice_index}
 use Rattle.std.specs.List.{last_or}
 use Rattle.interaction.specs.Object.{live_threads}
@@ -38,10 +38,18 @@ run_by im chooser turns made r e m h schedule noted history fills words ending =
       ending_is = ending ∙ h.named;
     })
 
+none_left : (ks : List ℕ) (n : ℕ) → drop n ks ≡ [] → length ks ≤ n
+none_left [] n e = omega arith
+none_left (k ∷ ks) zero e = absurd (cc e)
+none_left (k ∷ ks) (suc n) e = let h = none_left ks n e in omega (arith, h)
+
 -- all turns are made
 pub last_at : (im : ImageData) (ks : List ℕ) (made : ℕ) (r : ProgressHere) → IsAt im ks made made r → drop made ks ≡ [] → HasEnded im ks made r (last_ending r.world.history (live_threads store (replayed r.world.history)))
 last_at im ks made r at none = by (live_threads store (replayed r.world.history)) (ap (λ s. live_threads store s) at.reached.store_is)
   where
+    full : made ≡ length ks
+    full = let some = none_left ks made none in let within = at.reached.within in omega (arith, some, within)
+
     whole : run (machine_of im) ks (opening_words im.cat.program) ≡ record { world = at.reached.world; ending = used_up (live_threads store at.reached.world.store) }
     whole = at.reached.same ∙ ap (λ rest. run_from (machine_of im) rest at.reached.world) none
 
@@ -58,6 +66,8 @@ last_at im ks made r at none = by (live_threads store (replayed r.world.history)
       count = at.reached.count;
       met = at.ready.met;
       schedule = at.schedule;
+      followed = at.reached.followed;
+      so = e;
     }
     by (u ∷ us) e = record {
       world = at.reached.world;
@@ -71,4 +81,6 @@ last_at im ks made r at none = by (live_threads store (replayed r.world.history)
       count = at.reached.count;
       met = at.ready.met;
       schedule = at.schedule;
+      followed = at.reached.followed;
+      so = (at.reached.count ∙ full, λ none'. cc (e, none'));
     }

@@ -4,6 +4,7 @@ pub mod Memory
 pub mod Stepped
 pub mod Runs
 pub mod Listed
-pub mod Reached
 pub mod Known
+pub mod Followed
+pub mod Reached
 pub mod Sound

@@ -1,9 +1,10 @@
 -- What the code has of a run after so many turns, and how one turn more goes. This project's own.
-use Rattle.std.specs.Prelude.{◌≡◌, ◌≢◌, ◌⊎◌, ℕ, ◌+◌, List, [], ◌∷◌, ◌++◌, length, take, drop, slice_get, slice_set, slice_index, Option, Some, None, true, false}
+use Rattle.std.specs.Prelude.{◌≡◌, ◌≢◌, ◌⊎◌, ℕ, ◌+◌, ◌≤◌, List, [], ◌∷◌, ◌++◌, length, take, drop, slice_get, slice_set, slice_index, Option, Some, None, true, false}
 use Rattle.interaction.specs.declared.history.Event.{Event}
 use Rattle.interaction.specs.declared.turn.What.{What}
 use Rattle.interaction.specs.declared.turn.What.TheVariants as noted
-use Rattle.interaction.specs.Object.{Answers}
+use Rattle.interaction.specs.Endings.{EndsSo}
+use Rattle.interaction.specs.Object.{Answers, is_active}
 use Rattle.interaction.specs.Run.{World, run, run_from, state_of, claims_in}
 use Rattle.interaction.specs.Run as running
 use Rattle.rgctx_words.specs.Held.{AreFit}
@@ -25,7 +26,8 @@ use Rattle.store_object.specs.Replay.{store, replayed, is_halted, is_improper}
 use Rattle.store_object.specs.Store.{Store}
 use Rattle.thread_core.specs.declared.record.Turn.{Turn as TurnHere}
 use Rattle.thread_core.specs.declared.progress.Progress.{Progress as ProgressHere}
-use Rattle.thread_core.specs.Going.{IsGoing}
+use Rattle.thread_core.specs.Followed.{IsFollowed}
+use Rattle.thread_core.specs.Going.{IsGoing, has_ended}
 use Rattle.thread_core.specs.Listed.{Listed, IsListed, claims_of, unclaimed}
 use Rattle.thread_core.specs.Runs.{opening_words, machine_of, improper_fault, ending_at, notes_of, draws_of}
 use Rattle.thread_core.specs.Starts.{started_thread, starts}
@@ -40,8 +42,13 @@ AreMet cat words = AreFit (λ ws. AreFitting cat (λ i. slice_index ws i)) words
 abbrev pub AreFine : CatData → List ℕ → List ThreadData → Type 0
 AreFine cat words threads = (u : ℕ) (s : ThreadData) → slice_get threads u ≡ Some s → (f : FillData) → s.doing ≡ Fills f → IsUnderWay cat (slice_index words) f
 
+-- each thread that lives goes on
+abbrev pub AreBusy : List (Event Request Reply) → List ThreadData → Type 0
+AreBusy h threads = (u : ℕ) (s : ThreadData) → slice_get threads u ≡ Some s → is_active store (replayed h) u ≡ true → has_ended s.doing ≡ false
+
 pub record IsReady (im : ImageData) (r : ProgressHere) : Type 0 where
   pub fine : AreFine im.cat r.words.words r.threads.items
+  pub busy : AreBusy r.world.history r.threads.items
   pub met : AreMet im.cat r.words.words
   pub listed : IsListed r.words
   pub lives : HasStarted r.started (replayed r.world.history)
@@ -59,6 +66,8 @@ module _ (im : ImageData) (ks : List ℕ) where
     pub turns_are : notes_of world.turns ≡ turns
     pub count : length world.turns ≡ made
     pub each : (u : ℕ) → state_of (machine_of im) world u ≡ slice_get threads u
+    pub within : made ≤ length ks
+    pub followed : IsFollowed im world
 
   -- and so many numbers are noted
   pub record IsAt (made drawn : ℕ) (r : ProgressHere) : Type 0 where
@@ -79,6 +88,8 @@ module _ (im : ImageData) (ks : List ℕ) where
     pub count : length world.turns ≡ made
     pub met : AreMet im.cat r.words.words
     pub schedule : r.schedule.items ≡ take (draws_of ending made) ks
+    pub followed : IsFollowed im world
+    pub so : EndsSo (machine_of im) (length ks) world ending
 
   -- one turn more, or the end; the number of the turn is noted
   abbrev pub GoesOnOrEnds : ℕ → ProgressHere → Option Ending → Type 0

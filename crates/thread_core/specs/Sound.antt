@@ -61,6 +61,6 @@ IsSound im = Sound (machine_of im) (AreMet im.cat) (λ words. IsKnown im.cat (sl
 pub record IsFaithful (im : ImageData) (limit : ℕ) (r : Outcome Request Reply ThreadData Store) : Type 0 where
   pub end : ℕ → ThreadData
   pub loose : IsLooseRun im r.world.words r.world.history (λ u. turns_of u r.world.turns) end
-  pub ends : EndsSo (machine_of im) limit r.world r.ending
+  pub ended : EndsSo (machine_of im) limit r.world r.ending
   pub legal : IsSound im → Legal im.cat.program (words_naming r.world.words) r.world.history
   pub no_fault : IsSound im → (fault : MachineFault) → ending_at im r.world r.ending ≡ ends.Fault fault → ⊥

@@ -1,14 +1,13 @@
 // A run so far, and its next turn.
-ghost use Rattle.std.specs.Prelude.{◌≡◌, ◌≢◌, ◌<◌, ◌+◌, ◌++◌, ◌∷◌, [], ℕ, List, Option, Some, None, false, drop, vec_len, slice_get, slice_index, IfOk, OnOk};
+ghost use Rattle.std.specs.Prelude.{◌≡◌, ◌≢◌, ◌<◌, ◌+◌, ◌++◌, ◌∷◌, [], ℕ, List, Option, Some, None, true, false, drop, vec_len, slice_get, slice_index, IfOk, OnOk};
 ghost use Rattle.std.specs.List.{last_or};
-ghost use Rattle.interaction.specs.Object.{live_threads};
+ghost use Rattle.interaction.specs.Object.{is_active, live_threads};
 ghost use Rattle.interaction.specs.Run.{chosen};
 ghost use Rattle.rgctx_words.specs.Held.{AreFit};
 ghost use Rattle.rgctx_template.specs.Catalogue.{data_of};
 ghost use Rattle.rgctx_fill.specs.Fitting.{AreFitting};
 ghost use Rattle.rgctx_fill.specs.Serving.{IsServable};
 ghost use Rattle.rgctx_fill.specs.ThreadStates.{ImageData, ThreadData, image_of};
-ghost use Rattle.rgctx_fill.specs.declared.doing.Doing.TheVariants.{Ended};
 ghost use Rattle.schedules.specs.Living.{HasStarted};
 ghost use Rattle.store_object.specs.Store.{Store};
 ghost use Rattle.store_object.specs.Replay.{replayed, store};
@@ -25,7 +24,7 @@ use crate::starts::{main_state, started_state};
 use crate::thread::next;
 use interaction::What;
 use mn_outside::{FaultCause, MachineFault, NoMemory};
-use rgctx_fill::{Doing, ImageView, ThreadState, Want, opening_words};
+use rgctx_fill::{ImageView, ThreadState, Want, opening_words};
 use rt_service::answer;
 use schedules::{Started, ended_by};
 use std::alloc::Global;
@@ -66,18 +65,6 @@ fn put_turn(turns: &mut Vec<Turn>, turn: Turn) -> Result<(), NoMemory>
     match turns.push(turn) {
         Ok(()) => Ok(()),
         Err(_) => Err(NoMemory),
-    }
-}
-
-// Whether a thread has ended.
-fn has_ended(state: &ThreadState) -> bool
-    ensures { result ≡ has_ended state.now.doing }
-{
-    match &state.doing {
-        Doing::Ended => true,
-        Doing::Runs | Doing::Serves | Doing::Fills(_) | Doing::Interprets => false,
-        Doing::Throws(_) | Doing::Searches(_) | Doing::Refuses => false,
-        Doing::Stops(_) | Doing::Finishes => false,
     }
 }
 
@@ -265,13 +252,11 @@ impl Progress {
         requires image { IsServable (image_of image.now) }
         requires ready { IsReady (image_of image.now) self.old }
         requires inside { thread < vec_len self.old.threads }
+        requires lives { is_active store (replayed self.old.world.history) thread ≡ true }
         ensures { IfOk result (λ (end : Option TheEnding). (ks : List ℕ) (made number : ℕ) → IsAt (image_of image.now) ks made (made + 1) self.old →
             drop made ks ≡ number ∷ drop (made + 1) ks → chosen (live_threads store (replayed self.old.world.history)) number ≡ Some thread →
             GoesOnOrEnds (image_of image.now) ks made self.new end) }
     {
-        if has_ended(&self.threads[thread as usize]) {
-            return Ok(Some(Ending::Done));
-        }
         match turn_at(alloc, image, &mut self.threads, &mut self.words, thread)? {
             Want::Did(what) => {
                 self.note(thread, what)?;

@@ -7,6 +7,7 @@ ghost use Rattle.schedules.specs.Numbers.{numbers, HasNumbers};
 ghost use Rattle.thread_core.specs.Listed.{IsListed};
 ghost use Rattle.thread_core.specs.Reached.{AreMet};
 ghost use Rattle.thread_core.specs.Runs.{image_run, note_at, IsRun};
+ghost use Rattle.thread_core.specs.Sound.{IsFaithful};
 
 use crate::fills::fills_in;
 use crate::listed::ListedWords;
@@ -90,6 +91,8 @@ pub fn run(
     requires enough { HasNumbers chooser.now turns }
     ensures run { IfOk result (λ r. IsRun (image_of image.now) (numbers chooser.now turns) (image_run (image_of image.now) chooser.now turns)
         r.schedule.items r.turns.items r.history.items r.fills.items r.words.items r.ending) }
+    // So it is a loose run with its last words; over a sound image its history is legal, and it ends in no fault.
+    ensures faithful { IfOk result (λ r. IsFaithful (image_of image.now) turns (image_run (image_of image.now) chooser.now turns)) }
     // The last words fit, whatever the image's code is.
     ensures met { IfOk result (λ r. AreMet (data_of image.now.cat) r.words.items) }
 {

@@ -4,10 +4,12 @@ use Rattle.rgctx_template.specs.Catalogue.{data_of}
 use Rattle.rgctx_fill.specs.ThreadStates.{image_of}
 use Rattle.schedules.specs.Drawn.{left, HasLeft}
 use Rattle.schedules.specs.Numbers.{numbers}
-use Rattle.schedules.proofs.DrawLemmas.{drawn_next, drawn_all}
+use Rattle.schedules.proofs.DrawLemmas.{drawn_next, drawn_all, length_numbers}
 use Rattle.store_object.specs.Replay.{store, replayed}
 use Rattle.thread_core.specs.Reached.{AreMet, GoesOnOrEnds, HasEnded}
-use Rattle.thread_core.specs.Runs.{last_ending}
+use Rattle.thread_core.specs.Runs.{image_run, last_ending}
+use Rattle.thread_core.specs.Sound.{IsFaithful}
+use Rattle.thread_core.proofs.FaithLemmas.{faithful_by}
 use Rattle.thread_core.proofs.WholeLemmas.{run_by, last_at}
 use Rattle.thread_core.proofs.whole.run.Goals as goal
 
@@ -61,6 +63,28 @@ returns-clause-run c =
     let end = (c.in_ok-ending-2.ensures {u = tt}) (replayed r.world.history) inv.at.ready.lives in
     run_by im ch c.args.turns at r (last_ending r.world.history live) c.in_ok-finished-2.field-0 (last_at im (numbers ch c.args.turns) at r inv.at none)
     said.schedule said.turns said.history said.fills said.words (said.ending ∙ end)
+
+pub returns-in-Some-clause-faithful : goal.returns-in-Some-clause-faithful
+returns-in-Some-clause-faithful c =
+    let im = image_of c.args.image.now in
+    let ch = c.args.chooser.now in
+    let inv = c.loop-turn.invariant in
+    let at = c.loop-turn._turn in
+    let d = drawn_next (numbers ch c.args.turns) ch c.loop-turn.drawing c.draw-number.new.self c.draw-number.result at c.args.turns c.loop-turn-test.true inv.left inv.enough c.draw-number.ensures.next c.draw-number.ensures.enough in
+    let goes = (c.in_ok-ending.ensures {u = tt}) (numbers ch c.args.turns) at inv.at d.split in
+    let ended : HasEnded im (numbers ch c.args.turns) at c.step.new.self c.in-Some.ending = subst (λ o. GoesOnOrEnds im (numbers ch c.args.turns) at c.step.new.self o) c.in-Some.is goes in
+    subst (λ n. IsFaithful im n (image_run im ch c.args.turns)) (length_numbers ch c.args.turns c.requires.enough) (faithful_by im (numbers ch c.args.turns) at c.step.new.self c.in-Some.ending ended)
+
+pub returns-clause-faithful : goal.returns-clause-faithful
+returns-clause-faithful c =
+    let im = image_of c.args.image.now in
+    let ch = c.args.chooser.now in
+    let inv = c.loop-turn.invariant in
+    let at = c.loop-turn._turn in
+    let r = c.loop-turn.progress in
+    let live = live_threads store (replayed r.world.history) in
+    let none = drawn_all (numbers ch c.args.turns) ch c.loop-turn.drawing at c.args.turns c.loop-turn-test.false inv.left in
+    subst (λ n. IsFaithful im n (image_run im ch c.args.turns)) (length_numbers ch c.args.turns c.requires.enough) (faithful_by im (numbers ch c.args.turns) at r (last_ending r.world.history live) (last_at im (numbers ch c.args.turns) at r inv.at none))
 
 pub step-requires-clause-ready : goal.step-requires-clause-ready
 step-requires-clause-ready c = c.loop-turn.invariant.at.ready

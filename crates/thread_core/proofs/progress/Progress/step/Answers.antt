@@ -1,6 +1,7 @@
 use Rattle.std.proofs.Common.{◌≡◌, ◌∙◌, length, None, Some, arith, sym, ap, subst}
 use Rattle.std.specs.List.{last_or}
-use Rattle.interaction.specs.Object.{live_threads}
+use Rattle.interaction.specs.Object.{is_active, live_threads}
+use Rattle.interaction.proofs.Choosing.{chosen_lives}
 use Rattle.interaction.specs.Run.{chosen}
 use Rattle.rgctx_fill.specs.ThreadStates.{image_of}
 use Rattle.schedules.specs.Ends.{ended_by}
@@ -28,6 +29,14 @@ turn-requires-clause-inside c =
     let within = inside-by (image_of c.args.image.now) r c.args.number c.in-Some.thread c.requires.ready (sym (found (replayed r.world.history) c.requires.ready.lives) ∙ c.in-Some.is) in
     let same = ap length (c.in_ok-note_number.ensures {u = tt}).threads in
     omega (arith, within, same, c.note_number.new.self.threads.ok.0)
+
+pub turn-requires-clause-lives : goal.turn-requires-clause-lives
+turn-requires-clause-lives c =
+    let r = c.args.self.now in
+    let found = c.in_ok-thread.ensures {u = tt} in
+    let drawn = c.in_ok-note_number.ensures {u = tt} in
+    let some = sym (found (replayed r.world.history) c.requires.ready.lives) ∙ c.in-Some.is in
+    ap (λ w. is_active store (replayed w.history) c.in-Some.thread) drawn.world ∙ chosen_lives store (replayed r.world.history) c.args.number c.in-Some.thread some
 
 pub returns : goal.returns
 returns c = λ ks made at split.

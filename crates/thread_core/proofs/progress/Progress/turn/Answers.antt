@@ -3,16 +3,11 @@ use Rattle.std.specs.Prelude.{slice_get}
 use Rattle.std.proofs.lemmas.Option.{slice_get-get_or}
 use Rattle.rgctx_fill.specs.ThreadStates.{image_of}
 use Rattle.thread_core.specs.declared.progress.Progress.{Progress as ProgressHere}
-use Rattle.thread_core.proofs.AtLemmas.{ended_at, went_at, full_at, fault_at, asked_at}
+use Rattle.thread_core.proofs.AtLemmas.{went_at, full_at, fault_at, asked_at}
 use Rattle.thread_core.proofs.progress.Progress.turn.Goals as goal
 
-pub returns-then-has_ended : goal.returns-then-has_ended
-returns-then-has_ended c = λ ks made number at split choice.
-    let r = c.args.self.now in
-    let t = c.index.result.now in
-    let within : c.args.thread < length r.threads.items = omega (arith, c.requires.inside, r.threads.ok.0) in
-    let there : slice_get r.threads.items c.args.thread ≡ Some t = slice_get-get_or r.threads.items c.args.thread t within ∙ ap Some (sym c.index.ensures) in
-    ended_at (image_of c.args.image.now) ks made number c.args.thread r at split choice t there (sym c.has_ended.ensures ∙ c.if-has_ended.true)
+pub turn_at-requires-clause-going : goal.turn_at-requires-clause-going
+turn_at-requires-clause-going c = λ s there. c.requires.ready.busy c.args.thread s there c.requires.lives
 
 pub returns-in_ok-note-in-Did : goal.returns-in_ok-note-in-Did
 returns-in_ok-note-in-Did c = λ ks made number at split choice.
