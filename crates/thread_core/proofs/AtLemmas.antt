@@ -21,8 +21,8 @@ use Rattle.rgctx_fill.specs.declared.doing.Doing.TheVariants.{Runs, Serves, Fill
 use Rattle.rgctx_fill.specs.declared.thread.Want.{Want}
 use Rattle.rgctx_fill.specs.declared.thread.Want.TheVariants as answers
 use Rattle.rgctx_fill.specs.Moves.{span, IsMade, IsReplied}
-use Rattle.rgctx_fill.specs.ThreadStates.{ImageData, ThreadData, plain}
-use Rattle.rgctx_fill.specs.ThreadTurns.{move_of, next_move}
+use Rattle.rgctx_fill.specs.ThreadStates.{ImageData, ThreadData}
+use Rattle.rgctx_fill.specs.ThreadTurns.{next_move}
 use Rattle.rgctx_fill.specs.Turns.{FillData}
 use Rattle.rgctx_fill.proofs.TurnLemmas.{ready-grows}
 use Rattle.rt_service.specs.GoingOn.{HasNoFill}
@@ -36,7 +36,7 @@ use Rattle.store_object.specs.declared.ending.Ending.TheVariants as ends
 use Rattle.store_object.specs.declared.request.Request.{Request}
 use Rattle.store_object.specs.declared.reply.Reply.{Reply}
 use Rattle.store_object.specs.Answer.{answer}
-use Rattle.store_object.specs.Store.{is_live}
+use Rattle.store_object.specs.Store.{Store, is_live}
 use Rattle.store_object.specs.Replay.{store, replayed}
 use Rattle.store_object.proofs.Histories.{replayed-push}
 use Rattle.store_object.proofs.StoreLaws.{lives_below}
@@ -171,6 +171,7 @@ module _ (im : ImageData) (ks : List ℕ) (made k u : ℕ) (r : ProgressHere) (a
       turns_are = at.reached.turns_are ∙ sym turns;
       count = at.reached.count;
       met = t.met;
+      lives = subst (λ w. HasStarted mid.started (replayed w.history)) (sym world) (subst (λ s. HasStarted s (replayed r.world.history)) (sym started) at.ready.lives);
       schedule = schedule ∙ schedule_at ∙ ap (λ m. take m ks) (sym (n.draws made));
       followed = at.reached.followed;
       so = so_here im ks made k r.threads.items r.words r.world.history r.turns.items at.reached split u t.was choice t.there n.ending right n.stops;
@@ -221,6 +222,7 @@ module _ (im : ImageData) (ks : List ℕ) (made k u : ℕ) (r : ProgressHere) (a
             turns_are = at.reached.turns_are ∙ sym (f.turns ∙ turns);
             count = at.reached.count;
             met = subst (λ (l : Listed). AreMet im.cat l.words) (sym (f.words ∙ same_words)) at.ready.met;
+            lives = subst (λ h. HasStarted new.started (replayed h)) (sym (f.history ∙ same_history)) (subst (λ s. HasStarted s (replayed r.world.history)) (sym (f.started ∙ started)) at.ready.lives);
             schedule = f.schedule ∙ schedule ∙ schedule_at ∙ ap (λ m. take m ks) (sym draws);
             followed = at.reached.followed;
             so = so_here im ks made k r.threads.items r.words r.world.history r.turns.items at.reached split u t.was choice t.there ending right stops;
@@ -345,6 +347,7 @@ module _ (im : ImageData) (ks : List ℕ) (made k : ℕ) (r : ProgressHere) (at 
     turns_are = at.reached.turns_are;
     count = at.reached.count;
     met = at.ready.met;
+    lives = at.ready.lives;
     schedule = at.schedule;
     followed = at.reached.followed;
     so = chosen_none (live_threads store at.reached.world.store) k (ap (λ s. chosen (live_threads store s) k) at.reached.store_is ∙ none);
@@ -358,12 +361,16 @@ module _ (im : ImageData) (ks : List ℕ) (made k : ℕ) (r : ProgressHere) (at 
     schedule = d.schedule ∙ ap (λ l. l ++ k ∷ []) at.schedule ∙ sym (take_one ks (drop (made + 1) ks) made k split);
   }
 
+-- a thread that may be chosen lives
+pub active_lives : (s : Store) (u : ℕ) → is_active store s u ≡ true → is_live s u ≡ true
+active_lives s u e = by s.is_over (is_live s u) e
+  where
+    by : (a b : Bool) → (not a && b) ≡ true → b ≡ true
+    by true b f = absurd (cc f)
+    by false b f = f
+
 -- who is chosen has a place
 pub inside-by : (im : ImageData) (r : ProgressHere) (k u : ℕ) → IsReady im r → chosen (live_threads store (replayed r.world.history)) k ≡ Some u → u < length r.threads.items
 inside-by im r k u ready choice =
-    let lives = and_second (not (replayed r.world.history).is_over) (is_live (replayed r.world.history) u) (chosen_lives store (replayed r.world.history) k u choice) in
+    let lives = active_lives (replayed r.world.history) u (chosen_lives store (replayed r.world.history) k u choice) in
     subst (λ n. u < n) (sym ready.threads) (lives_below (replayed r.world.history) u lives)
-  where
-    and_second : (a b : Bool) → (a && b) ≡ true → b ≡ true
-    and_second true b e = e
-    and_second false b e = absurd (cc e)

@@ -1,5 +1,5 @@
 -- Where the next turn of a thread leads: one that has not ended goes on, but where its request ends it.
-use Rattle.std.proofs.Common.{◌≡◌, ◌∙◌, ◌⊎◌, inl, inr, ⊎_elim, ℕ, ◌+◌, ◌%◌, ◌==◌, Bool, true, false, not, ◌&&◌, List, [], ◌∷◌, ◌++◌, length, slice_get, Option, Some, None, if◌then◌else◌, refl, sym, ap, subst}
+use Rattle.std.proofs.Common.{◌≡◌, ◌∙◌, ◌⊎◌, inl, inr, ⊎_elim, ℕ, ◌%◌, ◌==◌, Bool, true, false, not, ◌&&◌, List, [], slice_get, Option, Some, None, if◌then◌else◌, refl, sym, ap, subst}
 use Rattle.il_model.specs.declared.entry.Entry.{Entry}
 use Rattle.il_model.specs.declared.layout.Limit.{Limit}
 use Rattle.type_tree.specs.declared.tree.TExpr.{TExpr}
@@ -43,7 +43,7 @@ use Rattle.rgctx_fill.specs.declared.stage.FillStep.TheVariants as step
 use Rattle.rgctx_fill.specs.Accesses.{frame_read, frame_written}
 use Rattle.rgctx_fill.specs.BestRows.{best_row}
 use Rattle.il_model.specs.declared.key.BodyRow.{BodyRow}
-use Rattle.rgctx_fill.specs.FillServices.{filled_with, filled, fills_next, begins_within, begins_entry, begins_at, fills}
+use Rattle.rgctx_fill.specs.FillServices.{filled_with, fills_next, begins_within, begins_entry, begins_at, fills}
 use Rattle.rgctx_fill.specs.MachineTurns.{context_of, loads_frame, loads_from, stores, does, decoded, at_word}
 use Rattle.rgctx_fill.specs.NamedValues.{entry_at}
 use Rattle.rgctx_fill.specs.Services.{first, second, serves_as, serves_if}

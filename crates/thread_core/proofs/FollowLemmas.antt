@@ -1,11 +1,11 @@
 -- A run's threads are followed turn by turn, so that the run is a loose one, and ends as a run ends.
-use Rattle.std.proofs.Common.{◌≡◌, ◌∙◌, ◌⊎◌, inl, inr, ⊎_elim, ℕ, ◌<◌, ◌==◌, Bool, true, false, if◌then◌else◌, List, [], ◌∷◌, ◌++◌, length, Option, Some, None, refl, sym, ap, subst, arith, eqb-true, append-nil}
+use Rattle.std.proofs.Common.{◌≡◌, ◌∙◌, ◌⊎◌, inl, inr, ⊎_elim, ℕ, ◌<◌, ◌==◌, Bool, true, false, if◌then◌else◌, List, [], ◌∷◌, ◌++◌, length, Option, Some, None, refl, sym, ap, subst, eqb-true, append-nil}
 use Rattle.std.specs.Prelude.{slice_index}
 use Rattle.interaction.specs.declared.history.Event.{Event}
 use Rattle.interaction.specs.Process.{Exchange}
 use Rattle.interaction.specs.Thread.{Turn, Asked, Makes, Turns}
 use Rattle.interaction.specs.Thread as thread
-use Rattle.interaction.specs.Object.{Answers, is_active, live_threads}
+use Rattle.interaction.specs.Object.{Answers, is_active}
 use Rattle.interaction.specs.History.{part}
 use Rattle.interaction.specs.LooseRun.{AnswersNothing, Remembers}
 use Rattle.interaction.specs.Endings.{EndsSo}

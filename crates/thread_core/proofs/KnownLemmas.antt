@@ -1,20 +1,18 @@
 -- A word that is known stands: where the words fit, each node that a word in use names is in use.
-use Rattle.std.proofs.Common.{◌≡◌, ◌≢◌, ℕ, ◌*◌, ◌<◌, List, Some, refl, sym, ap, ◌∙◌, subst, arith}
-use Rattle.std.specs.Prelude.{slice_index, slice_get}
-use Rattle.il_model.specs.declared.entry.Entry.{Entry}
+use Rattle.std.proofs.Common.{◌≡◌, ◌≢◌, ℕ, ◌*◌, ◌<◌, List, Some, sym, ap, ◌∙◌, subst, arith}
+use Rattle.std.specs.Prelude.{slice_get}
 use Rattle.interaction.specs.Thread.{Turn, Turns, Want}
 use Rattle.interaction.specs.RunLaws.{Grows}
 use Rattle.interaction.proofs.Later.{told_stands}
 use Rattle.rgctx_words.specs.declared.directory.DirectoryWord.{DirectoryWord}
-use Rattle.rgctx_words.specs.Regions.{word_count, node_count, row_count, row_words, directory_index, row_index}
+use Rattle.rgctx_words.specs.Regions.{row_count, row_index}
 use Rattle.rgctx_words.specs.Places.{row_entries, entry_of}
 use Rattle.rgctx_template.specs.Catalogue.{CatData}
-use Rattle.rgctx_fill.specs.declared.spelled.NodeTree.{NodeTree}
 use Rattle.rgctx_fill.specs.Claims.{NamesFrom}
 use Rattle.rgctx_fill.specs.Fitting.{directory, use_of, IsRow, IsEntry, AreFitting}
 use Rattle.rgctx_fill.specs.GrowthLaws.{within-used, use-grows}
 use Rattle.rgctx_fill.specs.LeafLaws.{leaf-used}
-use Rattle.rgctx_fill.specs.NamedValues.{node_in, IsNamed}
+use Rattle.rgctx_fill.specs.NamedValues.{node_in}
 use Rattle.rgctx_fill.specs.PlaceLaws.{node-place}
 use Rattle.rgctx_fill.specs.Spelled.{spelled}
 use Rattle.rgctx_fill.specs.SpelledLaws.{spelled-grows}

@@ -16,6 +16,7 @@ mod AtLemmas
 mod FillNotes
 mod WholeLemmas
 mod FaithLemmas
+mod SoFarLemmas
 mod ObjectLemmas
 mod FirstLemmas
 mod AskLemmas

@@ -8,3 +8,4 @@ pub mod Known
 pub mod Followed
 pub mod Reached
 pub mod Sound
+pub mod SoFar

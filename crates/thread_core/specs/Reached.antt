@@ -87,6 +87,7 @@ module _ (im : ImageData) (ks : List ℕ) where
     pub turns_are : notes_of world.turns ≡ r.turns.items
     pub count : length world.turns ≡ made
     pub met : AreMet im.cat r.words.words
+    pub lives : HasStarted r.started (replayed r.world.history)
     pub schedule : r.schedule.items ≡ take (draws_of ending made) ks
     pub followed : IsFollowed im world
     pub so : EndsSo (machine_of im) (length ks) world ending
@@ -153,6 +154,7 @@ pub record Refused (u : ℕ) (request : Request) (old new : ProgressHere) (e : E
       ⊎ ((is_improper (store.reply (replayed old.world.history) u request) ≡ false) × (is_halted (store.reply (replayed old.world.history) u request) ≡ true) × (e ≡ ends.Done))
   pub history : new.world.history ≡ old.world.history
   pub words : new.words ≡ old.words
+  pub started : new.started ≡ old.started
   pub turns : new.turns.items ≡ old.turns.items
   pub schedule : new.schedule.items ≡ old.schedule.items
 

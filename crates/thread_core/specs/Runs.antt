@@ -1,5 +1,5 @@
 -- The run of an image under a schedule, and what a record of it says. This project's own.
-use Rattle.std.specs.Prelude.{◌≡◌, ℕ, suc, ◌-◌, List, [], ◌∷◌, map, take, length, filter_map, slice_index, Option, Some, None}
+use Rattle.std.specs.Prelude.{◌≡◌, ◌≢◌, ℕ, suc, ◌-◌, List, [], ◌∷◌, map, take, length, filter_map, slice_index, Option, Some, None}
 use Rattle.std.specs.List.{last_or, range_with_len}
 use Rattle.il_model.specs.declared.program.Program.{Program}
 use Rattle.mn_outside.specs.declared.machine.FaultCause.TheVariants.{Service}
@@ -84,6 +84,11 @@ refusal s says.Improper = Some (ends.Fault (improper_fault s))
 abbrev pub last_ending : List (Event Request Reply) → List ℕ → Ending
 last_ending h [] = ended_by (last_or None h)
 last_ending h (u ∷ us) = ends.Turns
+
+-- the end where nobody lives, and none where a thread does
+abbrev pub IsEndOf : List (Event Request Reply) → List ℕ → Option Ending → Type 0
+IsEndOf h live None = live ≢ []
+IsEndOf h live (Some e) = (live ≡ []) × (e ≡ ended_by (last_or None h))
 
 -- ---- what a record says
 

@@ -17,7 +17,6 @@ use Rattle.cil_meaning.specs.Naming.{Mention, type_of_mention}
 use Rattle.cil_meaning.specs.Threads as process
 use Rattle.rgctx_fill.specs.Spelled.{naming_of}
 use Rattle.rgctx_fill.specs.ThreadStates.{ImageData, ThreadData}
-use Rattle.store_object.specs.declared.ending.Ending.{Ending}
 use Rattle.store_object.specs.declared.ending.Ending.TheVariants as ends
 use Rattle.store_object.specs.declared.request.Request.{Request}
 use Rattle.store_object.specs.declared.reply.Reply.{Reply}

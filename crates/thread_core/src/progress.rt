@@ -13,7 +13,7 @@ ghost use Rattle.store_object.specs.Store.{Store};
 ghost use Rattle.store_object.specs.Replay.{replayed, store};
 ghost use Rattle.store_object.specs.declared.ending.Ending.{Ending as TheEnding};
 ghost use Rattle.thread_core.specs.Listed.{IsListed};
-ghost use Rattle.thread_core.specs.Runs.{improper_fault, refusal, last_ending};
+ghost use Rattle.thread_core.specs.Runs.{improper_fault, refusal, last_ending, IsEndOf};
 ghost use Rattle.thread_core.specs.Going.{has_ended};
 ghost use Rattle.thread_core.specs.Reached.{AreFine, AreMet, IsReady, IsAt, HasEnded, GoesOnOrEnds, Turned, Replied, begun_of, begun_with, SpokeOrRefused, IsNoted, IsDrawn};
 ghost use Rattle.thread_core.specs.Starts.{starts, object_by, object_started};
@@ -182,7 +182,8 @@ impl Progress {
     // The opening words, a new store, and thread 0 at the entry point.
     pub(crate) fn opening(alloc: Global, image: &ImageView) -> Result<Progress, NoMemory>
         requires { IsServable (image_of image.now) }
-        ensures { IfOk result (λ r. (ks : List ℕ) → IsAt (image_of image.now) ks 0 0 r) }
+        ensures at { IfOk result (λ r. (ks : List ℕ) → IsAt (image_of image.now) ks 0 0 r) }
+        ensures empty { IfOk result (λ r. r.world.history ≡ []) }
     {
         let opening = opening_words(alloc, image.cat.program)?;
         let words = ListedWords::of(alloc, opening)?;
@@ -253,9 +254,10 @@ impl Progress {
         requires ready { IsReady (image_of image.now) self.old }
         requires inside { thread < vec_len self.old.threads }
         requires lives { is_active store (replayed self.old.world.history) thread ≡ true }
-        ensures { IfOk result (λ (end : Option TheEnding). (ks : List ℕ) (made number : ℕ) → IsAt (image_of image.now) ks made (made + 1) self.old →
+        ensures turn { IfOk result (λ (end : Option TheEnding). (ks : List ℕ) (made number : ℕ) → IsAt (image_of image.now) ks made (made + 1) self.old →
             drop made ks ≡ number ∷ drop (made + 1) ks → chosen (live_threads store (replayed self.old.world.history)) number ≡ Some thread →
             GoesOnOrEnds (image_of image.now) ks made self.new end) }
+        ensures schedule { IfOk result (λ end. self.new.schedule.items ≡ self.old.schedule.items) }
     {
         match turn_at(alloc, image, &mut self.threads, &mut self.words, thread)? {
             Want::Did(what) => {
@@ -280,8 +282,11 @@ impl Progress {
     ) -> Result<Option<Ending>, NoMemory>
         requires image { IsServable (image_of image.now) }
         requires ready { IsReady (image_of image.now) self.old }
-        ensures { IfOk result (λ (end : Option TheEnding). (ks : List ℕ) (made : ℕ) → IsAt (image_of image.now) ks made made self.old →
+        ensures step { IfOk result (λ (end : Option TheEnding). (ks : List ℕ) (made : ℕ) → IsAt (image_of image.now) ks made made self.old →
             drop made ks ≡ number ∷ drop (made + 1) ks → GoesOnOrEnds (image_of image.now) ks made self.new end) }
+        // The number is noted where it chooses a thread.
+        ensures noted { IfOk result (λ (end : Option TheEnding). (u : ℕ) → chosen (live_threads store (replayed self.old.world.history)) number ≡ Some u →
+            self.new.schedule.items ≡ self.old.schedule.items ++ number ∷ []) }
     {
         let Some(thread) = self.started.chosen(number)? else {
             return Ok(Some(ended_by(self.world.history())));
@@ -289,6 +294,16 @@ impl Progress {
         self.note_number(number)?;
         let ending = self.turn(alloc, image, thread)?;
         Ok(ending)
+    }
+
+    /// The end where nobody lives.
+    pub(crate) fn end(&self) -> Result<Option<Ending>, NoMemory>
+        ensures { IfOk result (λ (end : Option TheEnding). (s : Store) → HasStarted self.now.started s → IsEndOf self.now.world.history (live_threads store s) end) }
+    {
+        match self.started.chosen(0)? {
+            None => Ok(Some(ended_by(self.world.history()))),
+            Some(_) => Ok(None),
+        }
     }
 
     /// The end where so many turns are made.

@@ -19,7 +19,7 @@ loop-turn-init c =
     let d = c.of-drawing.result in
     let all : c.args.turns - 0 ≡ c.args.turns = omega arith in
     record {
-      at = (c.in_ok-progress.ensures {u = tt}) (numbers ch c.args.turns);
+      at = (c.in_ok-progress.ensures {u = tt}).at (numbers ch c.args.turns);
       left = sym (ap (left ch d) all ∙ c.of-drawing.ensures.all c.args.turns);
       enough = subst (HasLeft ch d) (sym all) (c.of-drawing.ensures.enough c.args.turns c.requires.enough);
     }
@@ -31,7 +31,7 @@ loop-turn-preserved c =
     let inv = c.loop-turn.invariant in
     let at = c.loop-turn._turn in
     let d = drawn_next (numbers ch c.args.turns) ch c.loop-turn.drawing c.draw-number.new.self c.draw-number.result at c.args.turns c.loop-turn-test.true inv.left inv.enough c.draw-number.ensures.next c.draw-number.ensures.enough in
-    let goes = (c.in_ok-ending.ensures {u = tt}) (numbers ch c.args.turns) at inv.at d.split in
+    let goes = (c.in_ok-ending.ensures {u = tt}).step (numbers ch c.args.turns) at inv.at d.split in
     record {
       at = subst (λ o. GoesOnOrEnds im (numbers ch c.args.turns) at c.step.new.self o) c.in_default.is goes;
       left = d.rest;
@@ -45,7 +45,7 @@ returns-in-Some-clause-run c =
     let inv = c.loop-turn.invariant in
     let at = c.loop-turn._turn in
     let d = drawn_next (numbers ch c.args.turns) ch c.loop-turn.drawing c.draw-number.new.self c.draw-number.result at c.args.turns c.loop-turn-test.true inv.left inv.enough c.draw-number.ensures.next c.draw-number.ensures.enough in
-    let ended = (c.in_ok-ending.ensures {u = tt}) (numbers ch c.args.turns) at inv.at d.split in
+    let ended = (c.in_ok-ending.ensures {u = tt}).step (numbers ch c.args.turns) at inv.at d.split in
     let said = c.in_ok-finished.ensures {u = tt} in
     run_by im ch c.args.turns at c.step.new.self c.in-Some.ending c.in_ok-finished.field-0 (subst (λ o. GoesOnOrEnds im (numbers ch c.args.turns) at c.step.new.self o) c.in-Some.is ended)
     said.schedule said.turns said.history said.fills said.words said.ending
@@ -71,7 +71,7 @@ returns-in-Some-clause-faithful c =
     let inv = c.loop-turn.invariant in
     let at = c.loop-turn._turn in
     let d = drawn_next (numbers ch c.args.turns) ch c.loop-turn.drawing c.draw-number.new.self c.draw-number.result at c.args.turns c.loop-turn-test.true inv.left inv.enough c.draw-number.ensures.next c.draw-number.ensures.enough in
-    let goes = (c.in_ok-ending.ensures {u = tt}) (numbers ch c.args.turns) at inv.at d.split in
+    let goes = (c.in_ok-ending.ensures {u = tt}).step (numbers ch c.args.turns) at inv.at d.split in
     let ended : HasEnded im (numbers ch c.args.turns) at c.step.new.self c.in-Some.ending = subst (λ o. GoesOnOrEnds im (numbers ch c.args.turns) at c.step.new.self o) c.in-Some.is goes in
     subst (λ n. IsFaithful im n (image_run im ch c.args.turns)) (length_numbers ch c.args.turns c.requires.enough) (faithful_by im (numbers ch c.args.turns) at c.step.new.self c.in-Some.ending ended)
 
@@ -96,7 +96,7 @@ finished-requires c =
     let inv = c.loop-turn.invariant in
     let at = c.loop-turn._turn in
     let d = drawn_next (numbers ch c.args.turns) ch c.loop-turn.drawing c.draw-number.new.self c.draw-number.result at c.args.turns c.loop-turn-test.true inv.left inv.enough c.draw-number.ensures.next c.draw-number.ensures.enough in
-    let goes = (c.in_ok-ending.ensures {u = tt}) (numbers ch c.args.turns) at inv.at d.split in
+    let goes = (c.in_ok-ending.ensures {u = tt}).step (numbers ch c.args.turns) at inv.at d.split in
     let ended : HasEnded im (numbers ch c.args.turns) at c.step.new.self c.in-Some.ending = subst (λ o. GoesOnOrEnds im (numbers ch c.args.turns) at c.step.new.self o) c.in-Some.is goes in
     ended.met
 
@@ -110,7 +110,7 @@ returns-in-Some-clause-met c =
     let inv = c.loop-turn.invariant in
     let at = c.loop-turn._turn in
     let d = drawn_next (numbers ch c.args.turns) ch c.loop-turn.drawing c.draw-number.new.self c.draw-number.result at c.args.turns c.loop-turn-test.true inv.left inv.enough c.draw-number.ensures.next c.draw-number.ensures.enough in
-    let goes = (c.in_ok-ending.ensures {u = tt}) (numbers ch c.args.turns) at inv.at d.split in
+    let goes = (c.in_ok-ending.ensures {u = tt}).step (numbers ch c.args.turns) at inv.at d.split in
     let ended : HasEnded im (numbers ch c.args.turns) at c.step.new.self c.in-Some.ending = subst (λ o. GoesOnOrEnds im (numbers ch c.args.turns) at c.step.new.self o) c.in-Some.is goes in
     subst (AreMet (data_of c.args.image.now.cat)) (sym (c.in_ok-finished.ensures {u = tt}).words) ended.met
 

@@ -18,6 +18,7 @@ returns-in-Some c =
       so = subst (λ y. IsRefused t y c.in-Some.ending) asked.reply (refused_so t c.in_ok-reply.reply c.in-Some.ending is);
       history = asked.noted ∙ noted_none r.world.history c.args.thread c.args.request c.in_ok-reply.reply t c.in-Some.ending is;
       words = refl;
+      started = refl;
       turns = refl;
       schedule = refl;
     }

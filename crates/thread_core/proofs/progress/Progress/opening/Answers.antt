@@ -6,8 +6,8 @@ use Rattle.thread_core.specs.Reached.{AreMet}
 use Rattle.thread_core.proofs.FirstLemmas.{at_first}
 use Rattle.thread_core.proofs.progress.Progress.opening.Goals as goal
 
-pub returns : goal.returns
-returns c = λ ks.
+pub returns-clause-at : goal.returns-clause-at
+returns-clause-at c = λ ks.
     at_first (image_of c.args.image.now) ks _ c.in_ok-first.first
     (first_of (search rules, grind (arith, common_steps)))
     (c.in_ok-first.ensures {u = tt})

@@ -10,8 +10,8 @@ use Rattle.thread_core.specs.Reached.{HasEnded}
 use Rattle.thread_core.proofs.AtLemmas.{done_at, drawn_at, drawn_ready, inside-by}
 use Rattle.thread_core.proofs.progress.Progress.step.Goals as goal
 
-pub returns-in_default : goal.returns-in_default
-returns-in_default c = λ ks made at split.
+pub returns-in_default-clause-step : goal.returns-in_default-clause-step
+returns-in_default-clause-step c = λ ks made at split.
     let im = image_of c.args.image.now in
     let r = c.args.self.now in
     let found = c.in_ok-thread.ensures {u = tt} in
@@ -38,12 +38,12 @@ turn-requires-clause-lives c =
     let some = sym (found (replayed r.world.history) c.requires.ready.lives) ∙ c.in-Some.is in
     ap (λ w. is_active store (replayed w.history) c.in-Some.thread) drawn.world ∙ chosen_lives store (replayed r.world.history) c.args.number c.in-Some.thread some
 
-pub returns : goal.returns
-returns c = λ ks made at split.
+pub returns-clause-step : goal.returns-clause-step
+returns-clause-step c = λ ks made at split.
     let im = image_of c.args.image.now in
     let r = c.args.self.now in
     let found = c.in_ok-thread.ensures {u = tt} in
     let drawn = c.in_ok-note_number.ensures {u = tt} in
     let some = sym (found (replayed r.world.history) c.requires.ready.lives) ∙ c.in-Some.is in
     let choice : chosen (live_threads store (replayed c.note_number.new.self.world.history)) c.args.number ≡ Some c.in-Some.thread = ap (λ w. chosen (live_threads store (replayed w.history)) c.args.number) drawn.world ∙ some in
-    (c.in_ok-ending.ensures {u = tt}) ks made c.args.number (drawn_at im ks made c.args.number r at split c.note_number.new.self drawn) split choice
+    (c.in_ok-ending.ensures {u = tt}).turn ks made c.args.number (drawn_at im ks made c.args.number r at split c.note_number.new.self drawn) split choice
